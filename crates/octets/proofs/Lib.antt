@@ -1,0 +1,4 @@
+pub mod BigEndianLaws
+pub mod XorLaws
+pub mod BufferLaws
+pub mod WordLaws

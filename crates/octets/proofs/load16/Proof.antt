@@ -1,0 +1,63 @@
+use mathlib.Core.Path.{subst, sym}
+use Prim.Native.Nat.{ℕ, _+_, _<_, _^_}
+use Rattle.octets.proofs.WordLaws.{Word, one-byte, word-join}
+use native.Mathlib.Omega.{arith}
+use Rattle.octets.proofs.WordLaws.{one-byte, word-join}
+use borrow.Author.Needs.{needs}
+use Rattle.octets.proofs.load16.Statement.{statement}
+use Rattle.octets.proofs.load16.Tie as tie
+use Rattle.octets.proofs.load16.Reads as reads
+use Rattle.octets.proofs.load16.Lts as lts
+use Rattle.octets.proofs.wide.Reads as wide-reads
+
+-- src/lib.rt:15:10
+shared-slice-read-wide : tie.Need-shared-slice-read-wide
+shared-slice-read-wide c = search needs
+
+-- src/lib.rt:15:5
+wide-requires : tie.Need-wide-requires
+wide-requires c κs = search needs
+
+-- src/lib.rt:15:5
+mul-result : tie.Need-mul-result
+mul-result c = omega (arith, c .before .before .shared-slice-known .given (c .before .before .before .args .at))
+
+-- src/lib.rt:15:34
+add-wide : tie.Need-add-wide
+add-wide c = search needs
+
+-- src/lib.rt:15:32
+shared-slice-read-wide-2 : tie.Need-shared-slice-read-wide-2
+shared-slice-read-wide-2 c = search needs
+
+-- src/lib.rt:15:27
+wide-requires-2 : tie.Need-wide-requires-2
+wide-requires-2 c κs = search needs
+
+-- src/lib.rt:15:5
+add-result : tie.Need-add-result
+add-result c = omega (arith, c .before .before .before .before .shared-slice-known .given (c .before .before .before .before .before .args .at), c .before .before .before .before .shared-slice-known .given (c .before .before .before .before .before .args .at + 1))
+
+-- src/lib.rt:10:1
+returns : tie.Need-returns
+returns c =
+    let s = c .before .before .before .before .before .args .s .now in
+    let at = c .before .before .before .before .before .args .at in
+    let b = c .before .before .before .before .shared-slice-known .given in
+    let low : c .wide2 .result < 2 ^ 8 = omega (arith, b (at + 1)) in
+    word-join 1 s at (c .before .before .wide .result) (c .wide2 .result) (omega arith) low
+    (subst (λ (x : ℕ). Word 1 s at x) (sym (c .before .before .wide .ensures)) (one-byte s at (omega arith) (omega (arith, b at))))
+    (subst (λ (x : ℕ). Word 1 s (at + 1) x) (sym (c .wide2 .ensures)) (one-byte s (at + 1) (omega arith) (omega (arith, b (at + 1)))))
+
+pub load16-spec : {M : Type 1} → statement M
+load16-spec =
+    tie.close
+    (tie.spec
+    shared-slice-read-wide
+    wide-requires
+    mul-result
+    add-wide
+    shared-slice-read-wide-2
+    wide-requires-2
+    add-result
+    returns)

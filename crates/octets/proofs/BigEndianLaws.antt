@@ -1,14 +1,14 @@
 -- Laws of big-endian bytes, each over the number n of bytes. Assumes nothing.
-use mathlib.Core.Path.{_≡_, refl, sym, ap, ap₂, _∙_}
 use mathlib.Core.List.{List, [], _∷_, _++_}
+use mathlib.Core.Path.{_≡_, refl, sym, ap, ap₂, _∙_}
 use Prim.Native.Nat.{ℕ, zero, suc, _+_, _-_, _*_, _/_, _%_, _^_, _<_, _≤_}
-use native.Mathlib.Omega.{arith}
 use native.Mathlib.Nat.{mod-lt, mod-one, mod-eq-of-lt, div-one, le-refl, zero-add, suc-add, zero-mul, add-mul, add-assoc, mul-assoc}
+use native.Mathlib.Omega.{arith}
+use lib.Arith.{digits-lt}
 use lib.Bits.{bitXor, xor-shr, xor-mod}
+use lib.Dec.{lit<}
 use lib.ListN.{length, getD, length-append}
 use lib.Pow.{high, low, shr-shr, pow-pos, pow-add, mod-pow-add, mod-mod-pow, field}
-use lib.Arith.{digits-lt}
-use lib.Dec.{lit<}
 use Rattle.octets.specs.BigEndian.{Bytes, byte, toBytes, fromBytes}
 use Rattle.octets.specs.Xor.{xors}
 

@@ -1,12 +1,12 @@
 -- Laws of bytes written over a buffer: byte by byte, as a loop does it, and part behind part. Assumes nothing.
+use mathlib.Core.List.{List, _++_, append-assoc, append-nil}
 use mathlib.Core.Path.{_≡_, refl, sym, ap, ap₂, _∙_}
-use mathlib.Core.List.{List, [], _∷_, _++_, append-assoc, append-nil}
-use Prim.Native.Nat.{ℕ, zero, suc, _+_, _-_, _<_, _≤_}
-use native.Mathlib.Omega.{arith}
+use Prim.Native.Nat.{ℕ, suc, _+_, _-_, _<_, _≤_}
 use native.Mathlib.Nat.{add-assoc}
 use native.Mathlib.Numerals.{add-one}
+use native.Mathlib.Omega.{arith}
 use lib.ListN.{length, take, drop, getD, set, length-append, length-drop, length-take, drop-of-length-le}
-use lib.Seq.{take-append-seam, drop-append-seam, drop-drop, drop-length, take-length, take-all, take-suc, drop-cons, set-at, take-at, drop-at, length-take-le, sets, sets-eq}
+use lib.Seq.{take-append-seam, drop-append-seam, drop-drop, take-length, take-all, take-suc, drop-cons, set-at, take-at, drop-at, length-take-le, sets, sets-eq}
 use Rattle.octets.specs.Buffer.{over, overAt}
 
 pub length-over : (bs d : List ℕ) → length bs ≤ length d → length (over bs d) ≡ length d

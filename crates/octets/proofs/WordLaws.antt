@@ -1,13 +1,13 @@
 -- A word of n + n bytes in a list, put together from two of n, and taken apart into them. Stated once over n. Assumes nothing.
-use mathlib.Core.Path.{_≡_, refl, sym, ap, ap₂, _∙_}
 use mathlib.Core.List.{List, [], _∷_, _++_}
-use Prim.Native.Nat.{ℕ, zero, suc, _+_, _-_, _*_, _/_, _%_, _^_, _<_, _≤_}
-use native.Mathlib.Omega.{arith}
+use mathlib.Core.Path.{_≡_, sym, ap, ap₂, _∙_}
+use Prim.Native.Nat.{ℕ, _+_, _-_, _*_, _/_, _%_, _^_, _<_, _≤_}
 use native.Mathlib.Nat.{mod-eq-of-lt, le-refl}
+use native.Mathlib.Omega.{arith}
 use lib.ListN.{length, take, drop, getD, length-drop}
 use lib.Seq.{take-add, drop-drop, drop-cons, length-take-le}
 use Rattle.octets.specs.BigEndian.{toBytes, fromBytes}
-use Rattle.octets.specs.Buffer.{over, overAt}
+use Rattle.octets.specs.Buffer.{overAt}
 use Rattle.octets.proofs.BigEndianLaws.{toBytes-append, toBytes-join, toBytes-low, fromBytes-append, length-toBytes}
 use Rattle.octets.proofs.BufferLaws.{overAt-append}
 

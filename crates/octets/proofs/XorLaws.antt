@@ -1,9 +1,9 @@
 -- Laws of XOR: of numbers, and of lists of bytes (length, element, parts, twice is nothing). Assumes nothing.
-use mathlib.Core.Path.{_≡_, refl, sym, ap, ap₂, _∙_}
 use mathlib.Core.List.{List, [], _∷_, _++_}
-use Prim.Native.Nat.{ℕ, zero, suc, _+_, _*_, _/_, _%_, _^_, _<_, _≤_, min}
+use mathlib.Core.Path.{_≡_, refl, sym, ap, ap₂, _∙_}
+use Prim.Native.Nat.{ℕ, zero, suc, _+_, _*_, _/_, _%_, _<_, _≤_, min}
+use native.Mathlib.Nat.{mod-lt, le-of-suc-le-suc, zero-min, suc-min-suc, min-zero}
 use native.Mathlib.Omega.{arith}
-use native.Mathlib.Nat.{mod-lt, le-of-suc-le-suc, not-suc-le-zero, zero-min, suc-min-suc, min-zero}
 use lib.Arith.{bin-ind, digits-div, digits-mod}
 use lib.Bits.{bitXor, differ, xor-step, xor-zero-l, xor-zero-r, xor-self, xor-lt}
 use lib.Dec.{lit<}

@@ -1,44 +1,32 @@
 use mathlib.Core.Path.{subst, sym}
 use Prim.Native.Nat.{ℕ, _+_, _<_, _^_}
-use Rattle.octets.proofs.WordLaws.{Word, one-byte, word-join}
 use native.Mathlib.Omega.{arith}
-use Rattle.octets.proofs.WordLaws.{one-byte, word-join}
 use borrow.Author.Needs.{needs}
+use Rattle.octets.proofs.WordLaws.{Word, one-byte, word-join}
 use Rattle.octets.proofs.load16.Statement.{statement}
 use Rattle.octets.proofs.load16.Tie as tie
-use Rattle.octets.proofs.load16.Reads as reads
-use Rattle.octets.proofs.load16.Lts as lts
-use Rattle.octets.proofs.wide.Reads as wide-reads
 
--- src/lib.rt:15:10
 shared-slice-read-wide : tie.Need-shared-slice-read-wide
 shared-slice-read-wide c = search needs
 
--- src/lib.rt:15:5
 wide-requires : tie.Need-wide-requires
 wide-requires c κs = search needs
 
--- src/lib.rt:15:5
 mul-result : tie.Need-mul-result
 mul-result c = omega (arith, c .before .before .shared-slice-known .given (c .before .before .before .args .at))
 
--- src/lib.rt:15:34
 add-wide : tie.Need-add-wide
 add-wide c = search needs
 
--- src/lib.rt:15:32
 shared-slice-read-wide-2 : tie.Need-shared-slice-read-wide-2
 shared-slice-read-wide-2 c = search needs
 
--- src/lib.rt:15:27
 wide-requires-2 : tie.Need-wide-requires-2
 wide-requires-2 c κs = search needs
 
--- src/lib.rt:15:5
 add-result : tie.Need-add-result
 add-result c = omega (arith, c .before .before .before .before .shared-slice-known .given (c .before .before .before .before .before .args .at), c .before .before .before .before .shared-slice-known .given (c .before .before .before .before .before .args .at + 1))
 
--- src/lib.rt:10:1
 returns : tie.Need-returns
 returns c =
     let s = c .before .before .before .before .before .args .s .now in

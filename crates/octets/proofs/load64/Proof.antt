@@ -1,40 +1,29 @@
-use Rattle.octets.proofs.WordLaws.{word-join}
 use borrow.Author.Needs.{needs}
+use Rattle.octets.proofs.WordLaws.{word-join}
 use Rattle.octets.proofs.load64.Statement.{statement}
 use Rattle.octets.proofs.load64.Tie as tie
-use Rattle.octets.proofs.load64.Reads as reads
-use Rattle.octets.proofs.load64.Lts as lts
-use Rattle.octets.proofs.load32.Reads as load32-reads
 
--- src/lib.rt:41:16
 load32-requires : tie.Need-load32-requires
 load32-requires c κs = search needs
 
--- src/lib.rt:41:16
 cast-high : tie.Need-cast-high
 cast-high c = search needs
 
--- src/lib.rt:42:25
 add-load32 : tie.Need-add-load32
 add-load32 c = search needs
 
--- src/lib.rt:42:15
 load32-requires-2 : tie.Need-load32-requires-2
 load32-requires-2 c κs = search needs
 
--- src/lib.rt:42:15
 cast-low : tie.Need-cast-low
 cast-low c = search needs
 
--- src/lib.rt:43:5
 mul-result : tie.Need-mul-result
 mul-result c = search needs
 
--- src/lib.rt:43:5
 add-result : tie.Need-add-result
 add-result c = search needs
 
--- src/lib.rt:36:1
 returns : tie.Need-returns
 returns c =
     let a = c .before .before .before .args in

@@ -1,36 +1,26 @@
-use Rattle.octets.proofs.WordLaws.{word-split}
 use borrow.Author.Needs.{needs}
+use Rattle.octets.proofs.WordLaws.{word-split}
 use Rattle.octets.proofs.store32.Statement.{statement}
 use Rattle.octets.proofs.store32.Tie as tie
-use Rattle.octets.proofs.store32.Reads as reads
-use Rattle.octets.proofs.store32.Lts as lts
-use Rattle.octets.proofs.store16.Reads as store16-reads
 
--- src/lib.rt:60:20
 cast-store16 : tie.Need-cast-store16
 cast-store16 c = search needs
 
--- src/lib.rt:60:5
 store16-requires : tie.Need-store16-requires
 store16-requires c κs = search needs
 
--- src/lib.rt:61:16
 add-store16 : tie.Need-add-store16
 add-store16 c = search needs
 
--- src/lib.rt:61:24
 cast-store16-2 : tie.Need-cast-store16-2
 cast-store16-2 c = search needs
 
--- src/lib.rt:61:5
 store16-requires-2 : tie.Need-store16-requires-2
 store16-requires-2 c κs = search needs
 
--- src/lib.rt:56:1
 same-length : tie.Need-same-length
 same-length c = search needs
 
--- src/lib.rt:56:1
 returns : tie.Need-returns
 returns c =
     let a = c .before .before .before .before .before .before .before .before .before .args in

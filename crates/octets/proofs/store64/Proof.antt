@@ -1,36 +1,26 @@
-use Rattle.octets.proofs.WordLaws.{word-split}
 use borrow.Author.Needs.{needs}
+use Rattle.octets.proofs.WordLaws.{word-split}
 use Rattle.octets.proofs.store64.Statement.{statement}
 use Rattle.octets.proofs.store64.Tie as tie
-use Rattle.octets.proofs.store64.Reads as reads
-use Rattle.octets.proofs.store64.Lts as lts
-use Rattle.octets.proofs.store32.Reads as store32-reads
 
--- src/lib.rt:69:20
 cast-store32 : tie.Need-cast-store32
 cast-store32 c = search needs
 
--- src/lib.rt:69:5
 store32-requires : tie.Need-store32-requires
 store32-requires c κs = search needs
 
--- src/lib.rt:70:16
 add-store32 : tie.Need-add-store32
 add-store32 c = search needs
 
--- src/lib.rt:70:24
 cast-store32-2 : tie.Need-cast-store32-2
 cast-store32-2 c = search needs
 
--- src/lib.rt:70:5
 store32-requires-2 : tie.Need-store32-requires-2
 store32-requires-2 c κs = search needs
 
--- src/lib.rt:65:1
 same-length : tie.Need-same-length
 same-length c = search needs
 
--- src/lib.rt:65:1
 returns : tie.Need-returns
 returns c =
     let a = c .before .before .before .before .before .before .before .before .before .args in

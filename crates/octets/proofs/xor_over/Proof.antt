@@ -1,18 +1,18 @@
 use mathlib.Core.List.{List}
-use lib.Bits.{bitXor}
-use lib.ListN.{getD, set}
--- The loop's invariant: the first i bytes of the XOR stand at the start of d.
 use mathlib.Core.Path.{_≡_, sym, ap, _∙_}
-use Prim.Native.Nat.{ℕ, _-_, _<_, _≤_}
+use Prim.Native.Nat.{ℕ, _-_, _≤_}
 use native.Mathlib.Omega.{arith}
 use borrow.Author.Needs.{needs}
-use lib.ListN.{length, take, length-set}
-use Rattle.octets.specs.Xor.{xors}
+use lib.Bits.{bitXor}
+use lib.ListN.{getD, set, length, take, length-set}
 use Rattle.octets.specs.Buffer.{over}
-use Rattle.octets.proofs.XorLaws.{length-xors, getD-xors}
+use Rattle.octets.specs.Xor.{xors}
 use Rattle.octets.proofs.BufferLaws.{none-over, next-over, all-over}
+use Rattle.octets.proofs.XorLaws.{length-xors, getD-xors}
 use Rattle.octets.proofs.xor_over.Statement.{statement}
 use Rattle.octets.proofs.xor_over.Tie as tie
+
+-- The loop's invariant: the first i bytes of the XOR stand at the start of d.
 
 abbrev Inv-loop : tie.InvT-loop
 Inv-loop a b d₀ n i₀ d i = (i ≤ n) × (length d ≡ length d₀) × (d ≡ over (take i (xors a b)) d₀)

@@ -1,0 +1,4 @@
+mod BlockLaws
+mod MessageLaws
+pub mod DigestLaws
+pub mod HmacLaws

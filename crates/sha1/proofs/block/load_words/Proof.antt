@@ -1,0 +1,63 @@
+use Prim.Native.Nat.{_+_, _-_, _≤_}
+use mathlib.Core.Path.{_≡_}
+use native.Mathlib.Omega.{arith}
+use borrow.Author.Needs.{needs}
+use Rattle.sha1.specs.Sha1.{Words}
+use Rattle.sha1.proofs.BlockLaws.{words-none, words-load}
+use Rattle.sha1.proofs.block.load_words.Statement.{statement}
+use Rattle.sha1.proofs.block.load_words.Tie as tie
+
+abbrev Inv-loop : tie.InvT-loop
+Inv-loop w₀ m t₀ w t = (t ≤ 16) × Words m t w
+
+abbrev μ-loop : tie.MeasureT-loop
+μ-loop w₀ m t₀ w t = 16 - t
+
+loop-holds : tie.Need-loop-holds Inv-loop μ-loop
+loop-holds c = (search needs, words-none (c .before .args .m .now) (c .before .args .w .now) (c .before .pre .0))
+
+mul-load32 : tie.Need-mul-load32 Inv-loop μ-loop
+mul-load32 c = search needs
+
+load32-requires : tie.Need-load32-requires Inv-loop μ-loop
+load32-requires c κs = search needs
+
+mul-w : tie.Need-mul-w Inv-loop μ-loop
+mul-w c = search needs
+
+element-write-w : tie.Need-element-write-w Inv-loop μ-loop
+element-write-w c = search needs
+
+add-t : tie.Need-add-t Inv-loop μ-loop
+add-t c = search needs
+
+loop-less : tie.Need-loop-less Inv-loop μ-loop
+loop-less c = search needs
+
+loop-again : tie.Need-loop-again Inv-loop μ-loop
+loop-again c =
+    let l = c .before .before .loop in
+    let m = c .before .before .before .before .args .m .now in
+    (omega arith, words-load m (l .w) (l .t) (c .load32 .result) (omega arith) (l .inv .1) (c .load32 .ensures .0))
+
+returns : tie.Need-returns Inv-loop μ-loop
+returns c =
+    let l = c .before .loop in
+    let e : l .t ≡ 16 = omega arith in
+    rw e at (l .inv .1)
+
+pub load-words-spec : {M : Type 1} → statement M
+load-words-spec =
+    tie.close
+    (tie.spec
+    Inv-loop
+    μ-loop
+    loop-holds
+    mul-load32
+    load32-requires
+    mul-w
+    element-write-w
+    add-t
+    loop-less
+    loop-again
+    returns)

@@ -1,0 +1,92 @@
+// SHA-1 (FIPS 180-4) of a message in two parts, and HMAC-SHA1 (RFC 2104) with the work that depends on the key alone kept apart.
+ghost use mathlib.Core.Path.{_≡_};
+ghost use mathlib.Core.List.{_++_};
+ghost use Prim.Native.Nat.{_+_, _*_, _^_, _<_};
+ghost use lib.ListN.{length, replicate};
+ghost use Rattle.octets.specs.Xor.{xors};
+ghost use Rattle.sha1.specs.Sha1.{initial, sha1};
+ghost use Rattle.sha1.specs.Hmac.{keyState, hmacKey, hmacWith};
+
+mod block;
+mod message;
+
+// The five words of a hash value, and the working variables a to e of the rounds.
+pub struct State {
+    pub a: u32,
+    pub b: u32,
+    pub c: u32,
+    pub d: u32,
+    pub e: u32,
+}
+
+fn initial() -> State
+    ensures { λ r. ⌜ r ≡ initial ⌝ }
+{
+    State {
+        a: 0x6745_2301,
+        b: 0xefcd_ab89,
+        c: 0x98ba_dcfe,
+        d: 0x1032_5476,
+        e: 0xc3d2_e1f0,
+    }
+}
+
+// The digest of `a` followed by `b`. As FIPS 180-4 has it, a message is shorter than 2^64 bits.
+pub fn digest(a: &[u8], b: &[u8]) -> [u8; 20]
+    requires { ⌜ 8 * (length (now a) + length (now b)) < 2 ^ 64 ⌝ }
+    ensures { λ r. ⌜ r ≡ sha1 (now (a .entry) ++ now (b .entry)) ⌝ }
+{
+    message::digest_after(initial(), 0, a, b)
+}
+
+// What the key alone decides of HMAC: the hash values after the key's inner and outer block.
+pub struct HmacKey {
+    pub inner: State,
+    pub outer: State,
+}
+
+// `k` with each byte XORed with `v`.
+fn pad(k: [u8; 64], v: u8) -> [u8; 64]
+    ensures { λ r. ⌜ r ≡ xors k (replicate 64 v) ⌝ }
+{
+    let w = [v; 64];
+    let mut d = [0u8; 64];
+    octets::xor_over(&k, &w, &mut d);
+    d
+}
+
+// From a key that has been brought to a block's length.
+fn block_key_state(k: [u8; 64]) -> HmacKey
+    ensures { λ r. ⌜ r ≡ keyState k ⌝ }
+{
+    let i = pad(k, 0x36);
+    let o = pad(k, 0x5c);
+    let inner = block::compress(initial(), &i);
+    let outer = block::compress(initial(), &o);
+    HmacKey { inner, outer }
+}
+
+// From a key of any length (that SHA-1 takes).
+pub fn hmac_key(key: &[u8]) -> HmacKey
+    requires { ⌜ 8 * length (now key) < 2 ^ 64 ⌝ }
+    ensures { λ r. ⌜ r ≡ hmacKey (now (key .entry)) ⌝ }
+{
+    if key.len() <= 64 {
+        let k = message::zero_filled(key, b"");
+        return block_key_state(k);
+    }
+    let d = digest(key, b"");
+    let k = message::zero_filled(&d, b"");
+    block_key_state(k)
+}
+
+// HMAC of `a` followed by `b`. With the key's inner block the message is shorter than 2^64 bits.
+pub fn hmac(key: HmacKey, a: &[u8], b: &[u8]) -> [u8; 20]
+    requires { ⌜ 8 * (64 + (length (now a) + length (now b))) < 2 ^ 64 ⌝ }
+    ensures { λ r. ⌜ r ≡ hmacWith key (now (a .entry) ++ now (b .entry)) ⌝ }
+{
+    let inner = key.inner;
+    let outer = key.outer;
+    let d = message::digest_after(inner, 64, a, b);
+    message::digest_after(outer, 64, &d, b"")
+}

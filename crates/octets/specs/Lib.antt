@@ -1,3 +1,4 @@
 pub mod BigEndian
 pub mod Xor
 pub mod Buffer
+pub mod Equal

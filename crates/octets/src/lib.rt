@@ -5,6 +5,7 @@ ghost use lib.ListN.{length, take, drop};
 ghost use Rattle.octets.specs.BigEndian.{toBytes, fromBytes};
 ghost use Rattle.octets.specs.Xor.{xors};
 ghost use Rattle.octets.specs.Buffer.{over, overAt};
+ghost use Rattle.octets.specs.Equal.{same as equal};
 
 // The number that the two bytes of `s` from `at` spell. Its bytes are those.
 pub fn load16(s: &[u8], at: usize) -> u16
@@ -81,4 +82,33 @@ pub fn xor_over(a: &[u8], b: &[u8], d: &mut [u8])
         d[i] = a[i] ^ b[i];
         i += 1;
     }
+}
+
+// Writes `a` over the start of `d`.
+pub fn copy_over(a: &[u8], d: &mut [u8])
+    requires { ⌜ length (now a) ≤ length (now d) ⌝ }
+    ensures { λ _. ⌜ now (d .exit) ≡ over (now (a .entry)) (now (d .entry)) ⌝ }
+{
+    let n = a.len();
+    let mut i = 0;
+    while i < n {
+        d[i] = a[i];
+        i += 1;
+    }
+}
+
+// Whether `a` and `b` hold the same bytes. It gathers the differences of all of them and does not stop at the first.
+pub fn same(a: &[u8], b: &[u8]) -> bool
+    ensures { λ r. ⌜ r ≡ equal (now (a .entry)) (now (b .entry)) ⌝ }
+{
+    if a.len() != b.len() {
+        return false;
+    }
+    let mut d = 0u8;
+    let mut i = 0;
+    while i < a.len() {
+        d = d | (a[i] ^ b[i]);
+        i += 1;
+    }
+    d == 0
 }

@@ -1,0 +1,4 @@
+pub mod Rtp
+pub mod Rtcp
+pub mod Protected
+pub mod Steps

@@ -1,17 +1,18 @@
 -- Laws of one block: the message schedule word by word, and the rounds in groups of twenty. Assumes nothing.
 use mathlib.Core.Path.{_≡_, refl, sym, ap, _∙_}
-use mathlib.Core.Bool.{Bool, true, false}
-use mathlib.Core.List.{List, [], _∷_, _++_}
+use mathlib.Core.Bool.{Bool, true, false, cond}
+use mathlib.Core.List.{List, []}
 use Prim.Native.Nat.{ℕ, zero, suc, _+_, _-_, _*_, _≤_, _<_}
 use native.Mathlib.Numerals.{add-one}
 use native.Mathlib.Nat.{add-zero, add-suc, add-assoc}
 use native.Mathlib.Omega.{arith}
 use borrow.Author.Tests.{leb-true, leb-false, le-leb, lt-leb}
 use lib.Dec.{leb}
-use lib.ListN.{length, getD, take, set, length-set}
-use lib.Seq.{take-suc-set, take-all, getD-take}
+use lib.ListN.{length, getD, take, set, length-append, length-set}
+use lib.Seq.{take-suc-set, take-all, take-append-le, getD-take, getD-at}
 use Rattle.sha1.specs.declared.State.{State}
-use Rattle.sha1.specs.Sha1.{parity, wordAt, mixed, schedule, Words, ft, kt, round, rounds, sum, compress}
+use Rattle.sha1.specs.Sha1.{parity, wordAt, mixed, schedule, ft, kt, round, rounds, sum, compress}
+use Rattle.sha1.specs.Parts.{Words}
 
 -- ---- the message schedule: one word more
 
@@ -38,6 +39,38 @@ words-none m w l = (l, refl)
 
 pub words-all : (m w : List ℕ) → Words m 80 w → w ≡ schedule m 80
 words-all m w e = sym (take-all 80 w (omega arith)) ∙ e .1
+
+-- ---- the message schedule is the standard's: W_t of n words, for t < 16 and from 16 on
+
+length-schedule : (m : List ℕ) (n : ℕ) → length (schedule m n) ≡ n
+unfolding schedule
+length-schedule m zero = refl
+length-schedule m (suc n) = length-append (schedule m n) _ ∙ rw (length-schedule m n, add-one)
+
+schedule-front : (m : List ℕ) (t k : ℕ) → take t (schedule m (t + k)) ≡ schedule m t
+unfolding schedule
+schedule-front m t zero = rw add-zero (take-all t (schedule m t) (omega (arith, length-schedule m t)))
+schedule-front m t (suc k) =
+    rw add-suc (take-append-le t (schedule m (t + k)) _ (omega (arith, length-schedule m (t + k))) ∙ schedule-front m t k)
+
+module _ (m : List ℕ) (n t : ℕ) (h : t < n) where
+  front : take t (schedule m n) ≡ schedule m t
+  front =
+      let e : t + (n - t) ≡ n = omega arith in
+      rw e at (schedule-front m t (n - t))
+
+  word : getD (schedule m n) t 0 ≡ cond (leb t 15) (wordAt m t) (mixed (schedule m t) t)
+  unfolding schedule
+  word =
+      let e : suc t + (n - suc t) ≡ n = omega arith in
+      let f : take (suc t) (schedule m n) ≡ schedule m (suc t) = rw e at (schedule-front m (suc t) (n - suc t)) in
+      sym (getD-take (suc t) (schedule m n) t 0 (omega arith)) ∙ ap (λ (l : List ℕ). getD l t 0) f ∙ getD-at (schedule m t) _ [] 0 t (length-schedule m t)
+
+  pub word-first : t < 16 → getD (schedule m n) t 0 ≡ wordAt m t
+  word-first l = word ∙ rw (le-leb t 15 (omega arith))
+
+  pub word-later : 16 ≤ t → getD (schedule m n) t 0 ≡ mixed (schedule m n) t
+  word-later l = word ∙ rw (lt-leb t 15 (omega arith), ← front) (mixed-take (schedule m n) t l)
 
 -- ---- the rounds
 

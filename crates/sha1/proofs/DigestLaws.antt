@@ -1,14 +1,15 @@
 -- Laws of the message digest: its length, its elements, and a message of which whole blocks have been hashed before. Assumes nothing.
 use mathlib.Core.Path.{_≡_, refl, sym, ap, _∙_}
 use mathlib.Core.List.{List, [], _∷_, _++_, append-assoc}
-use Prim.Native.Nat.{ℕ, _+_, _*_, _%_, _<_}
+use Prim.Native.Nat.{ℕ, _+_, _%_, _<_}
 use native.Mathlib.Nat.{zero-add}
 use native.Mathlib.Omega.{arith}
-use lib.ListN.{length, length-append}
+use lib.ListN.{length, length-append, length-replicate}
 use Rattle.octets.specs.BigEndian.{Bytes, toBytes}
-use Rattle.octets.proofs.BigEndianLaws.{bytes-toBytes}
+use Rattle.octets.proofs.BigEndianLaws.{length-toBytes, bytes-toBytes}
 use Rattle.sha1.specs.declared.State.{State}
-use Rattle.sha1.specs.Sha1.{zeros, padding, initial, compress, hashAll, digestOf, sha1, sha1After}
+use Rattle.sha1.specs.Sha1.{zeros, padding, initial, compress, hashAll, digestOf, sha1}
+use Rattle.sha1.specs.Parts.{sha1After}
 use Rattle.sha1.proofs.MessageLaws.{hash-first}
 
 -- ---- twenty bytes
@@ -69,3 +70,8 @@ zeros-solve n = omega arith
 
 pub zeros-least : (n z : ℕ) → z < zeros n → (n + 1 + z) % 64 ≡ 56 → ⊥
 zeros-least n z l e = omega arith
+
+-- a padded message is whole blocks
+pub padded-whole : (m : List ℕ) → length (m ++ padding (length m)) % 64 ≡ 0
+unfolding padding
+padded-whole m = simp (length-append, length-replicate, length-toBytes) (omega arith)

@@ -1,19 +1,20 @@
 -- Laws of HMAC: its length, its elements, and that the state of a key gives RFC 2104's HMAC of that key. Assumes nothing.
-use mathlib.Core.Path.{_≡_, refl, sym, ap, ap₂, _∙_}
+use mathlib.Core.Path.{_≡_, refl, ap, _∙_}
 use mathlib.Core.Bool.{Bool, true, false, cond}
 use mathlib.Core.List.{List, [], _++_, append-nil}
 use Prim.Native.Nat.{ℕ, _≤_, _<_}
 use native.Mathlib.Omega.{arith}
 use borrow.Author.Tests.{leb-true, le-leb, lt-leb}
 use lib.Dec.{leb}
-use lib.ListN.{length, drop, replicate, length-replicate}
+use lib.ListN.{length, replicate}
 use lib.Seq.{drop-length}
 use Rattle.octets.specs.BigEndian.{Bytes}
 use Rattle.octets.specs.Xor.{xors}
 use Rattle.octets.specs.Buffer.{over}
 use Rattle.octets.proofs.XorLaws.{length-xors}
 use Rattle.sha1.specs.declared.HmacKey.{HmacKey}
-use Rattle.sha1.specs.Sha1.{zeroFilled, initial, compress, sha1, sha1After}
+use Rattle.sha1.specs.Sha1.{initial, compress, sha1}
+use Rattle.sha1.specs.Parts.{zeroFilled, sha1After}
 use Rattle.sha1.specs.Hmac.{ipad, opad, blockKey, hmac, keyState, hmacKey, hmacWith}
 use Rattle.sha1.proofs.MessageLaws.{length-zeroFilled}
 use Rattle.sha1.proofs.DigestLaws.{length-sha1, bytes-sha1, length-sha1After, bytes-sha1After, sha1-behind}
@@ -63,7 +64,9 @@ key-short key l = rw (append-nil, le-leb (length key) 64 l)
 
 pub key-long : (key d : List ℕ) → 64 < length key → d ≡ sha1 (key ++ []) → keyState (zeroFilled (d ++ [])) ≡ hmacKey key
 unfolding hmacKey blockKey
-key-long key d l e = rw (e, append-nil, append-nil, lt-leb (length key) 64 l)
+key-long key d l e =
+    let f : d ≡ sha1 key = e ∙ ap sha1 (append-nil key) in
+    rw (f, append-nil (sha1 key), lt-leb (length key) 64 l)
 
 pub hmacWith-key : (key text : List ℕ) → hmacWith (hmacKey key) text ≡ hmac key text
 unfolding hmacWith hmacKey keyState hmac

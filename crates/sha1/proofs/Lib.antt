@@ -2,3 +2,4 @@ mod BlockLaws
 mod MessageLaws
 pub mod DigestLaws
 pub mod HmacLaws
+mod Examples

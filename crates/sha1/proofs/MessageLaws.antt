@@ -5,14 +5,14 @@ use Prim.Native.Nat.{ℕ, zero, suc, _+_, _-_, _*_, _/_, _%_, _≤_, _<_}
 use native.Mathlib.Numerals.{add-one}
 use native.Mathlib.Nat.{add-zero, add-suc, sub-zero, zero-sub, suc-sub-suc}
 use native.Mathlib.Omega.{arith}
-use lib.ListN.{length, take, drop, set, replicate, length-append, length-drop, length-take, length-replicate, take-append-drop, drop-of-length-le, replicate-append-replicate}
-use lib.Seq.{take-all, take-append-le, drop-append-le, drop-drop, take-at, drop-at, length-take-le, set-at, append-snoc, drop-length, take-length, paste}
+use lib.ListN.{length, take, drop, set, replicate, length-append, length-drop, length-replicate, take-append-drop, drop-of-length-le, replicate-append-replicate}
+use lib.Seq.{take-all, take-append-le, drop-append-le, drop-drop, take-at, drop-at, length-take-le, set-at, drop-length}
 use Rattle.octets.specs.BigEndian.{toBytes}
 use Rattle.octets.specs.Buffer.{over, overAt}
-use Rattle.octets.proofs.BigEndianLaws.{length-toBytes}
-use Rattle.octets.proofs.BufferLaws.{length-overAt, overAt-over}
+use Rattle.octets.proofs.BufferLaws.{length-over, length-overAt, overAt-over, overAt-part}
 use Rattle.sha1.specs.declared.State.{State}
-use Rattle.sha1.specs.Sha1.{padding, zeros, blockAt, zeroFilled, compress, hashValue, hashAll, digestOf}
+use Rattle.sha1.specs.Sha1.{padding, zeros, blockAt, compress, hashValue, hashAll, digestOf}
+use Rattle.sha1.specs.Parts.{zeroFilled}
 
 -- ---- blocks one after the other
 
@@ -25,6 +25,11 @@ pub next-part : (h s : State) (p : List ℕ) (n : ℕ) → s ≡ hashValue h p n
 next-part h s p n e =
     let k : 64 * n + 64 - 64 * n ≡ 64 = omega arith in
     rw k (next-block h s p n e)
+
+pub length-part : (p : List ℕ) (n : ℕ) → 64 * n + 64 ≤ length p → length (take (64 * n + 64 - 64 * n) (drop (64 * n) p)) ≡ 64
+length-part p n l =
+    let k : 64 * n + 64 - 64 * n ≡ 64 = omega arith in
+    rw k (length-take-le 64 (drop (64 * n) p) (omega (arith, length-drop (64 * n) p)))
 
 -- some blocks, and then more
 hashValue-add : (h : State) (p : List ℕ) (k n : ℕ) → hashValue h p (k + n) ≡ hashValue (hashValue h p k) (drop (64 * k) p) n
@@ -43,7 +48,7 @@ hashValue-front h p q (suc n) l =
     let l₂ : 64 ≤ length (drop (64 * n) p) = omega (arith, length-drop (64 * n) p) in
     ap₂ compress (hashValue-front h p q n l₁) (ap (take 64) (drop-append-le (64 * n) p q l₁) ∙ take-append-le 64 (drop (64 * n) p) q l₂)
 
--- The whole blocks of m, and then its rest and what follows it.
+-- the whole blocks of m, and then its rest and what follows it
 pub hash-split : (h : State) (m q : List ℕ) → hashAll h (m ++ q) ≡ hashAll (hashAll h m) (drop (64 * (length m / 64)) m ++ q)
 unfolding hashAll
 hash-split h m q =
@@ -54,6 +59,7 @@ hash-split h m q =
     ∙ hashValue-add h (m ++ q) k (length (drop (64 * k) m ++ q) / 64)
     ∙ ap₂ (λ (s : State) (p : List ℕ). hashValue s p (length (drop (64 * k) m ++ q) / 64)) (hashValue-front h m q k l) (drop-append-le (64 * k) m q l)
 
+-- a single block
 pub hash-one : (h : State) (p : List ℕ) → length p ≡ 64 → hashAll h p ≡ compress h p
 unfolding hashAll hashValue
 hash-one h p l =
@@ -76,6 +82,23 @@ pub zeroFilled-full : (m : List ℕ) → length m ≡ 64 → zeroFilled m ≡ m
 unfolding zeroFilled
 zeroFilled-full m l = rw l (append-nil m)
 
+drop-replicate : (n i v : ℕ) → drop i (replicate n v) ≡ replicate (n - i) v
+drop-replicate n zero v = ap (λ (k : ℕ). replicate k v) (sym (sub-zero n))
+drop-replicate zero (suc i) v = ap (λ (k : ℕ). replicate k v) (sym (zero-sub (suc i)))
+drop-replicate (suc n) (suc i) v = drop-replicate n i v ∙ ap (λ (k : ℕ). replicate k v) (sym (suc-sub-suc n i))
+
+-- a written over a block of zeros, and then b over the part behind it
+pub filled-parts : (a b d₁ d₂ : List ℕ) → length a ≤ 64 → d₁ ≡ over a (replicate 64 0) → d₂ ≡ over b (take (64 - length a) (drop (length a) d₁))
+    → take (length a) d₁ ++ (d₂ ++ drop (64 - length a) (drop (length a) d₁)) ≡ zeroFilled (a ++ b)
+unfolding over zeroFilled
+filled-parts a b d₁ d₂ l e₁ e₂ =
+    let n : length d₁ ≡ 64 = ap length e₁ ∙ length-over a (replicate 64 0) l in
+    ap (λ (x : List ℕ). take (length a) d₁ ++ (x ++ drop (64 - length a) (drop (length a) d₁))) e₂
+    ∙ overAt-part (length a) (64 - length a) b d₁ (omega arith)
+    ∙ ap (overAt (length a) b) e₁
+    ∙ overAt-over (length a) a b (replicate 64 0) refl
+    ∙ ap (λ (z : List ℕ). (a ++ b) ++ z) (drop-replicate 64 (length (a ++ b)) 0)
+
 -- the first byte of the padding stored behind m
 pub stored-end : (m : List ℕ) (n : ℕ) → n ≡ length m → n < 64 → set (zeroFilled m) n 0x80 ≡ zeroFilled (m ++ (0x80 ∷ []))
 unfolding zeroFilled
@@ -83,36 +106,32 @@ stored-end m n e l =
     let k : 64 - length m ≡ suc (64 - length (m ++ (0x80 ∷ []))) = omega (arith, length-append m (0x80 ∷ [])) in
     rw (k, set-at m 0 (replicate (64 - length (m ++ (0x80 ∷ []))) 0) 0x80 n (sym e), append-assoc)
 
--- ---- steps of the code
+-- ---- the rest of a message in parts, behind its whole blocks and behind the block that two parts share
 
-pub paste-all : (d : List ℕ) (at : ℕ) (s : List ℕ) (n : ℕ) → n ≡ length s → paste d at s n ≡ overAt at s d
-unfolding overAt
-paste-all d at s n e = rw (e, take-length, append-assoc, drop-drop)
+-- a part of a slice that reaches to its end
+to-end : (m : List ℕ) (at : ℕ) → take (length m - at) (drop at m) ≡ drop at m
+to-end m at = take-all (length m - at) (drop at m) (omega (arith, length-drop at m))
 
-pub length-part : (p : List ℕ) (n : ℕ) → 64 * n + 64 ≤ length p → length (take (64 * n + 64 - 64 * n) (drop (64 * n) p)) ≡ 64
-length-part p n l =
-    let k : 64 * n + 64 - 64 * n ≡ 64 = omega arith in
-    rw k (length-take-le 64 (drop (64 * n) p) (omega (arith, length-drop (64 * n) p)))
+-- behind the whole blocks of a
+pub hash-rest : (h s : State) (a b q : List ℕ) → s ≡ hashAll h a
+    → hashAll s ((take (length a - 64 * (length a / 64)) (drop (64 * (length a / 64)) a) ++ b) ++ q) ≡ hashAll h ((a ++ b) ++ q)
+hash-rest h s a b q e =
+    ap₂ (λ (t : State) (d : List ℕ). hashAll t ((d ++ b) ++ q)) e (to-end a (64 * (length a / 64)))
+    ∙ sym (ap (hashAll h) (append-assoc a b q) ∙ hash-split h a (b ++ q) ∙ ap (hashAll (hashAll h a)) (sym (append-assoc (drop (64 * (length a / 64)) a) b q)))
 
-pub five-words : (h : State) (d₁ d₂ d₃ d₄ d₅ : List ℕ) → d₁ ≡ overAt 0 (toBytes 4 (h .a)) (replicate 20 0) → d₂ ≡ overAt 4 (toBytes 4 (h .b)) d₁
-    → d₃ ≡ overAt 8 (toBytes 4 (h .c)) d₂ → d₄ ≡ overAt 12 (toBytes 4 (h .d)) d₃ → d₅ ≡ overAt 16 (toBytes 4 (h .e)) d₄ → d₅ ≡ digestOf h
-unfolding overAt over digestOf
-five-words h d₁ d₂ d₃ d₄ d₅ e₁ e₂ e₃ e₄ e₅ = rw (e₅, e₄, e₃, e₂, e₁)
+-- behind a block with bytes of both parts
+pub hash-joint : (h s : State) (a b q block : List ℕ) (g : ℕ) → g ≡ 64 - length a → length a < 64 → g ≤ length b
+    → block ≡ zeroFilled (a ++ take g b) → s ≡ compress h block → hashAll s (take (length b - g) (drop g b) ++ q) ≡ hashAll h ((a ++ b) ++ q)
+hash-joint h s a b q block g e l k eb es =
+    let n : length (a ++ take g b) ≡ 64 = omega (arith, length-append a (take g b), length-take-le g b k) in
+    let f : (a ++ take g b) ++ (drop g b ++ q) ≡ (a ++ b) ++ q = simp (← append-assoc) (rw (append-assoc a (take g b) (drop g b), take-append-drop)) in
+    ap₂ (λ (t : State) (d : List ℕ). hashAll t (d ++ q)) (es ∙ ap (compress h) (eb ∙ zeroFilled-full (a ++ take g b) n)) (to-end b g)
+    ∙ sym (hash-first h (a ++ take g b) (drop g b ++ q) n)
+    ∙ ap (hashAll h) f
 
-drop-replicate : (n i v : ℕ) → drop i (replicate n v) ≡ replicate (n - i) v
-drop-replicate n zero v = ap (λ (k : ℕ). replicate k v) (sym (sub-zero n))
-drop-replicate zero (suc i) v = ap (λ (k : ℕ). replicate k v) (sym (zero-sub (suc i)))
-drop-replicate (suc n) (suc i) v = drop-replicate n i v ∙ ap (λ (k : ℕ). replicate k v) (sym (suc-sub-suc n i))
+-- ---- the blocks that end a message of n bytes, whose last bytes m are less than a block
 
--- a and then b written over a block of zeros
-pub filled-parts : (a b d₁ d₂ : List ℕ) → d₁ ≡ overAt 0 a (replicate 64 0) → d₂ ≡ overAt (length a) b d₁ → d₂ ≡ zeroFilled (a ++ b)
-unfolding overAt over zeroFilled
-filled-parts a b d₁ d₂ e₁ e₂ =
-    e₂ ∙ ap (overAt (length a) b) e₁ ∙ overAt-over (length a) a b (replicate 64 0) refl
-    ∙ ap (λ (z : List ℕ). (a ++ b) ++ z) (drop-replicate 64 (length (a ++ b)) 0)
-
--- ---- the blocks that end a message of n bytes, whose last ones are m, less than a block
-
+-- m, the byte 0x80 and i zeros
 end : List ℕ → ℕ → List ℕ
 end m i = m ++ (0x80 ∷ replicate i 0)
 
@@ -135,6 +154,7 @@ padding-end : (m : List ℕ) (n i : ℕ) → zeros n ≡ i → m ++ padding n �
 unfolding padding end
 padding-end m n i e = rw e (sym (append-assoc m (0x80 ∷ replicate i 0) (toBytes 8 (8 * n))))
 
+-- the last eight bytes of a block written
 overAt-end : (p q w : List ℕ) → length p ≡ 56 → length q ≤ length w → overAt 56 w (p ++ q) ≡ p ++ w
 unfolding overAt over
 overAt-end p q w l k = rw (take-at p q 56 l, drop-at p q 56 l, drop-of-length-le q k, append-nil)
@@ -173,24 +193,10 @@ module _ (h : State) (m : List ℕ) (n : ℕ) (e : length m ≡ n % 64) where
       ∙ sym (hash-first h _ _ length-first)
       ∙ ap (hashAll h) (sym (two-blocks m n (63 - length m) (omega arith) (omega arith) e))
 
--- ---- the parts of slices
+-- ---- the digest
 
-to-end : (m : List ℕ) (at : ℕ) → take (length m - at) (drop at m) ≡ drop at m
-to-end m at = take-all (length m - at) (drop at m) (omega (arith, length-drop at m))
-
--- behind the whole blocks of a
-pub hash-rest : (h s : State) (a b q : List ℕ) → s ≡ hashAll h a
-    → hashAll s ((take (length a - 64 * (length a / 64)) (drop (64 * (length a / 64)) a) ++ b) ++ q) ≡ hashAll h ((a ++ b) ++ q)
-hash-rest h s a b q e =
-    ap₂ (λ (t : State) (d : List ℕ). hashAll t ((d ++ b) ++ q)) e (to-end a (64 * (length a / 64)))
-    ∙ sym (ap (hashAll h) (append-assoc a b q) ∙ hash-split h a (b ++ q) ∙ ap (hashAll (hashAll h a)) (sym (append-assoc (drop (64 * (length a / 64)) a) b q)))
-
--- behind a block with bytes of both parts
-pub hash-joint : (h s : State) (a b q block : List ℕ) (g : ℕ) → g ≡ 64 - length a → length a < 64 → g ≤ length b
-    → block ≡ zeroFilled (a ++ take g b) → s ≡ compress h block → hashAll s (take (length b - g) (drop g b) ++ q) ≡ hashAll h ((a ++ b) ++ q)
-hash-joint h s a b q block g e l k eb es =
-    let n : length (a ++ take g b) ≡ 64 = omega (arith, length-append a (take g b), length-take-le g b k) in
-    let f : (a ++ take g b) ++ (drop g b ++ q) ≡ (a ++ b) ++ q = simp (← append-assoc) (rw (append-assoc a (take g b) (drop g b), take-append-drop)) in
-    ap₂ (λ (t : State) (d : List ℕ). hashAll t (d ++ q)) (es ∙ ap (compress h) (eb ∙ zeroFilled-full (a ++ take g b) n)) (to-end b g)
-    ∙ sym (hash-first h (a ++ take g b) (drop g b ++ q) n)
-    ∙ ap (hashAll h) f
+-- the five words of a hash value written one behind the other
+pub five-words : (h : State) (d₁ d₂ d₃ d₄ d₅ : List ℕ) → d₁ ≡ overAt 0 (toBytes 4 (h .a)) (replicate 20 0) → d₂ ≡ overAt 4 (toBytes 4 (h .b)) d₁
+    → d₃ ≡ overAt 8 (toBytes 4 (h .c)) d₂ → d₄ ≡ overAt 12 (toBytes 4 (h .d)) d₃ → d₅ ≡ overAt 16 (toBytes 4 (h .e)) d₄ → d₅ ≡ digestOf h
+unfolding overAt over digestOf
+five-words h d₁ d₂ d₃ d₄ d₅ e₁ e₂ e₃ e₄ e₅ = rw (e₅, e₄, e₃, e₂, e₁)

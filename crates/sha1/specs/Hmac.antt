@@ -6,7 +6,8 @@ use lib.ListN.{length, replicate}
 use lib.Dec.{leb}
 use Rattle.octets.specs.Xor.{xors}
 use Rattle.sha1.specs.declared.HmacKey.{HmacKey}
-use Rattle.sha1.specs.Sha1.{zeroFilled, initial, compress, sha1, sha1After}
+use Rattle.sha1.specs.Sha1.{initial, compress, sha1}
+use Rattle.sha1.specs.Parts.{zeroFilled, sha1After}
 
 -- ---- 2 Definition of HMAC
 

@@ -1,2 +1,3 @@
 pub mod Sha1
+pub mod Parts
 pub mod Hmac

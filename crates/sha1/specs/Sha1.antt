@@ -1,7 +1,6 @@
 -- SHA-1 (FIPS 180-4) over lists of bytes. Beside each definition stands the section that it follows.
 -- A word is a number below 2 ^ 32 (section 2.1), the highest byte first (section 3.1). Assumes nothing.
 use Prim.Native.Nat.{ℕ, zero, suc, _+_, _-_, _*_, _/_, _%_, _^_}
-use mathlib.Core.Path.{_≡_}
 use mathlib.Core.Bool.{cond}
 use mathlib.Core.List.{List, [], _∷_, _++_}
 use lib.ListN.{length, getD, take, drop, replicate}
@@ -12,22 +11,22 @@ use Rattle.sha1.specs.declared.State.{State}
 
 -- ---- 3.2 Operations on words
 
--- x + y modulo 2 ^ 32 (1)
+-- ¬ x (operation 1)
+abbrev pub complement : ℕ → ℕ
+complement x = 2 ^ 32 - 1 - x
+
+-- x + y modulo 2 ^ 32 (operation 2)
 abbrev pub add : ℕ → ℕ → ℕ
 add x y = (x + y) % 2 ^ 32
 
--- the complement ¬ x (2.2.2)
-abbrev pub not : ℕ → ℕ
-not x = 2 ^ 32 - 1 - x
-
--- ROTL n x = (x << n) ∨ (x >> 32 - n) (5)
+-- ROTL n x = (x << n) ∨ (x >> 32 - n) (operation 5)
 abbrev pub rotl : ℕ → ℕ → ℕ
 rotl n x = bitOr (x * 2 ^ n % 2 ^ 32) (x / 2 ^ (32 - n))
 
 -- ---- 4.1.1 The functions f_t
 
 abbrev pub ch : ℕ → ℕ → ℕ → ℕ
-ch x y z = bitXor (bitAnd x y) (bitAnd (not x) z)
+ch x y z = bitXor (bitAnd x y) (bitAnd (complement x) z)
 
 abbrev pub parity : ℕ → ℕ → ℕ → ℕ
 parity x y z = bitXor (bitXor x y) z
@@ -35,6 +34,7 @@ parity x y z = bitXor (bitXor x y) z
 abbrev pub maj : ℕ → ℕ → ℕ → ℕ
 maj x y z = bitXor (bitXor (bitAnd x y) (bitAnd x z)) (bitAnd y z)
 
+-- f_t is Ch for 0 ≤ t ≤ 19, Parity for 20 ≤ t ≤ 39, Maj for 40 ≤ t ≤ 59, Parity for 60 ≤ t ≤ 79
 unfoldable pub ft : ℕ → ℕ → ℕ → ℕ → ℕ
 ft t x y z = cond (leb t 19) (ch x y z) (cond (leb t 39) (parity x y z) (cond (leb t 59) (maj x y z) (parity x y z)))
 
@@ -51,17 +51,15 @@ zeros n = (119 - n % 64) % 64
 
 -- the bit 1 and zeros, and l as 64 bits
 unfoldable pub padding : ℕ → List ℕ
-padding n = 0x80 ∷ replicate (zeros n) 0 ++ toBytes 8 (8 * n)
+padding n = 0x80 ∷ (replicate (zeros n) 0 ++ toBytes 8 (8 * n))
 
--- ---- 5.2.1 Parsing: blocks of 512 bits, and the sixteen words of a block
+-- ---- 5.2.1 Parsing
 
+-- the blocks of 512 bits of a padded message, counted from 0
 abbrev pub blockAt : List ℕ → ℕ → List ℕ
 blockAt p i = take 64 (drop (64 * i) p)
 
--- the block that begins with m, with zeros behind it
-unfoldable pub zeroFilled : List ℕ → List ℕ
-zeroFilled m = m ++ replicate (64 - length m) 0
-
+-- the sixteen words of a block
 abbrev pub wordAt : List ℕ → ℕ → ℕ
 wordAt m t = fromBytes (take 4 (drop (4 * t) m))
 
@@ -80,10 +78,6 @@ mixed w t = rotl 1 (bitXor (bitXor (bitXor (getD w (t - 3) 0) (getD w (t - 8) 0)
 unfoldable pub schedule : List ℕ → ℕ → List ℕ
 schedule m zero = []
 schedule m (suc t) = schedule m t ++ (cond (leb t 15) (wordAt m t) (mixed (schedule m t) t) ∷ [])
-
--- w, of eighty words, has the first t of the schedule
-abbrev pub Words : List ℕ → ℕ → List ℕ → Type 0
-Words m t w = (length w ≡ 80) × (take t w ≡ schedule m t)
 
 -- step 3, round t with the word w = W_t: a is T = ROTL 5 a + f_t(b, c, d) + e + K_t + W_t
 unfoldable pub round : ℕ → ℕ → State → State
@@ -117,14 +111,10 @@ hashValue h p (suc n) = compress (hashValue h p n) (blockAt p n)
 unfoldable pub hashAll : State → List ℕ → State
 hashAll h p = hashValue h p (length p / 64)
 
--- the 160 bits of a hash value
+-- the 160 bits of a hash value, H_0 to H_4
 unfoldable pub digestOf : State → List ℕ
 digestOf h = toBytes 4 (h .a) ++ toBytes 4 (h .b) ++ toBytes 4 (h .c) ++ toBytes 4 (h .d) ++ toBytes 4 (h .e)
 
 -- the message digest of m
 unfoldable pub sha1 : List ℕ → List ℕ
 sha1 m = digestOf (hashAll initial (m ++ padding (length m)))
-
--- The digest of a message whose first n bytes, whole blocks, have led to the hash value h, and m is the rest.
-unfoldable pub sha1After : State → ℕ → List ℕ → List ℕ
-sha1After h n m = digestOf (hashAll h (m ++ padding (n + length m)))

@@ -3,7 +3,8 @@ ghost use mathlib.Core.Path.{_≡_};
 ghost use mathlib.Core.List.{List};
 ghost use Prim.Native.Nat.{ℕ, _+_, _*_, _≤_, _<_};
 ghost use lib.ListN.{length};
-ghost use Rattle.sha1.specs.Sha1.{add, rotl, ch, parity, maj, ft, kt, wordAt, mixed, schedule, Words, round, rounds, sum, compress};
+ghost use Rattle.sha1.specs.Sha1.{add, rotl, ch, parity, maj, ft, kt, wordAt, mixed, schedule, round, rounds, sum, compress};
+ghost use Rattle.sha1.specs.Parts.{Words};
 use crate::State;
 
 fn add(x: u32, y: u32) -> u32
@@ -12,22 +13,11 @@ fn add(x: u32, y: u32) -> u32
     std::num::wrapping_add_u32(x, y)
 }
 
-fn rotl1(x: u32) -> u32
-    ensures { λ r. ⌜ r ≡ rotl 1 x ⌝ }
+fn rotl(n: u32, x: u32) -> u32
+    requires { ⌜ (0 < n) × (n < 32) ⌝ }
+    ensures { λ r. ⌜ r ≡ rotl n x ⌝ }
 {
-    (x << 1) | (x >> 31)
-}
-
-fn rotl5(x: u32) -> u32
-    ensures { λ r. ⌜ r ≡ rotl 5 x ⌝ }
-{
-    (x << 5) | (x >> 27)
-}
-
-fn rotl30(x: u32) -> u32
-    ensures { λ r. ⌜ r ≡ rotl 30 x ⌝ }
-{
-    (x << 30) | (x >> 2)
+    (x << n) | (x >> (32 - n))
 }
 
 fn ch(x: u32, y: u32, z: u32) -> u32
@@ -78,13 +68,13 @@ fn round(q: usize, w: u32, s: State) -> State
     State {
         a: add(
             add(
-                add(add(rotl5(s.a), round_function(q, s.b, s.c, s.d)), s.e),
+                add(add(rotl(5, s.a), round_function(q, s.b, s.c, s.d)), s.e),
                 round_constant(q),
             ),
             w,
         ),
         b: s.a,
-        c: rotl30(s.b),
+        c: rotl(30, s.b),
         d: s.c,
         e: s.d,
     }
@@ -120,7 +110,7 @@ fn mixed(w: &[u32; 80], t: usize) -> u32
     requires { ⌜ (16 ≤ t) × (t < 80) ⌝ }
     ensures { λ r. ⌜ r ≡ mixed (now (w .entry)) t ⌝ }
 {
-    rotl1(w[t - 3] ^ w[t - 8] ^ w[t - 14] ^ w[t - 16])
+    rotl(1, w[t - 3] ^ w[t - 8] ^ w[t - 14] ^ w[t - 16])
 }
 
 // Sixteen words more: a loop that is short enough to be unrolled.

@@ -10,7 +10,8 @@ ghost use Rattle.sha1.specs.Hmac.{keyState, hmacKey, hmacWith};
 mod block;
 mod message;
 
-// The five words of a hash value, and the working variables a to e of the rounds.
+// The five words of a hash value, and the working variables a to e of the rounds. Its layout is C's, so that an exported context can hold it.
+#[repr(C)]
 pub struct State {
     pub a: u32,
     pub b: u32,
@@ -19,6 +20,7 @@ pub struct State {
     pub e: u32,
 }
 
+// The initial hash value.
 fn initial() -> State
     ensures { λ r. ⌜ r ≡ initial ⌝ }
 {
@@ -39,14 +41,15 @@ pub fn digest(a: &[u8], b: &[u8]) -> [u8; 20]
     message::digest_after(initial(), 0, a, b)
 }
 
-// What the key alone decides of HMAC: the hash values after the key's inner and outer block.
+// What the key alone decides of HMAC: the hash values after its inner and its outer block (RFC 2104, section 4).
+#[repr(C)]
 pub struct HmacKey {
     pub inner: State,
     pub outer: State,
 }
 
 // `k` with each byte XORed with `v`.
-fn pad(k: [u8; 64], v: u8) -> [u8; 64]
+fn xor_pad(k: [u8; 64], v: u8) -> [u8; 64]
     ensures { λ r. ⌜ r ≡ xors k (replicate 64 v) ⌝ }
 {
     let w = [v; 64];
@@ -55,32 +58,32 @@ fn pad(k: [u8; 64], v: u8) -> [u8; 64]
     d
 }
 
-// From a key that has been brought to a block's length.
-fn block_key_state(k: [u8; 64]) -> HmacKey
+// The state of a key that has been brought to a block's length.
+fn key_state(k: [u8; 64]) -> HmacKey
     ensures { λ r. ⌜ r ≡ keyState k ⌝ }
 {
-    let i = pad(k, 0x36);
-    let o = pad(k, 0x5c);
+    let i = xor_pad(k, 0x36);
+    let o = xor_pad(k, 0x5c);
     let inner = block::compress(initial(), &i);
     let outer = block::compress(initial(), &o);
     HmacKey { inner, outer }
 }
 
-// From a key of any length (that SHA-1 takes).
+// The state of a key of any length: one of over 64 bytes is hashed first, so it is shorter than 2^64 bits.
 pub fn hmac_key(key: &[u8]) -> HmacKey
     requires { ⌜ 8 * length (now key) < 2 ^ 64 ⌝ }
     ensures { λ r. ⌜ r ≡ hmacKey (now (key .entry)) ⌝ }
 {
     if key.len() <= 64 {
         let k = message::zero_filled(key, b"");
-        return block_key_state(k);
+        return key_state(k);
     }
     let d = digest(key, b"");
     let k = message::zero_filled(&d, b"");
-    block_key_state(k)
+    key_state(k)
 }
 
-// HMAC of `a` followed by `b`. With the key's inner block the message is shorter than 2^64 bits.
+// The HMAC of `a` followed by `b`, with the key whose state is `key`. With the key's block the message is shorter than 2^64 bits.
 pub fn hmac(key: HmacKey, a: &[u8], b: &[u8]) -> [u8; 20]
     requires { ⌜ 8 * (64 + (length (now a) + length (now b))) < 2 ^ 64 ⌝ }
     ensures { λ r. ⌜ r ≡ hmacWith key (now (a .entry) ++ now (b .entry)) ⌝ }

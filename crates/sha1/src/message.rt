@@ -6,22 +6,10 @@ ghost use Prim.Native.Nat.{_+_, _*_, _%_, _^_, _≤_, _<_};
 ghost use lib.ListN.{length};
 ghost use Rattle.octets.specs.BigEndian.{toBytes};
 ghost use Rattle.octets.specs.Buffer.{overAt};
-ghost use Rattle.sha1.specs.Sha1.{padding, zeroFilled, hashAll, digestOf, sha1After};
+ghost use Rattle.sha1.specs.Sha1.{padding, hashAll, digestOf};
+ghost use Rattle.sha1.specs.Parts.{zeroFilled, sha1After};
 use crate::State;
 use crate::block::compress;
-
-// Writes `s` over `d` from `at`.
-fn copy_over(s: &[u8], d: &mut [u8], at: usize)
-    requires { ⌜ at + length (now s) ≤ length (now d) ⌝ }
-    ensures { λ _. ⌜ now (d .exit) ≡ overAt at (now (s .entry)) (now (d .entry)) ⌝ }
-{
-    let n = s.len();
-    let mut i = 0;
-    while i < n {
-        d[at + i] = s[i];
-        i += 1;
-    }
-}
 
 // A block that begins with `a` and `b`, with zeros behind them.
 pub fn zero_filled(a: &[u8], b: &[u8]) -> [u8; 64]
@@ -29,8 +17,9 @@ pub fn zero_filled(a: &[u8], b: &[u8]) -> [u8; 64]
     ensures { λ r. ⌜ r ≡ zeroFilled (now (a .entry) ++ now (b .entry)) ⌝ }
 {
     let mut block = [0u8; 64];
-    copy_over(a, &mut block, 0);
-    copy_over(b, &mut block, a.len());
+    octets::copy_over(a, &mut block);
+    let n = a.len();
+    octets::copy_over(b, &mut block[n..]);
     block
 }
 

@@ -1,10 +1,9 @@
-use mathlib.Core.Path.{_≡_, ap, _∙_}
+use mathlib.Core.Path.{ap, _∙_}
 use mathlib.Core.List.{_++_}
-use native.Mathlib.Nat.{zero-add}
-use Rattle.sha1.specs.declared.State.{State}
-use Rattle.sha1.specs.Sha1.{sha1After}
-use Rattle.sha1.proofs.DigestLaws.{sha1-whole}
 use borrow.Author.Needs.{needs}
+use Rattle.sha1.specs.declared.State.{State}
+use Rattle.sha1.specs.Parts.{sha1After}
+use Rattle.sha1.proofs.DigestLaws.{sha1-whole}
 use Rattle.sha1.proofs.digest.Statement.{statement}
 use Rattle.sha1.proofs.digest.Tie as tie
 

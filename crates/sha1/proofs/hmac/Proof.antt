@@ -1,8 +1,8 @@
 use mathlib.Core.Path.{ap, _∙_}
 use mathlib.Core.List.{append-nil}
-use Rattle.sha1.specs.Sha1.{sha1After}
-use Rattle.sha1.specs.Hmac.{hmacWith}
 use borrow.Author.Needs.{needs}
+use Rattle.sha1.specs.Parts.{sha1After}
+use Rattle.sha1.specs.Hmac.{hmacWith}
 use Rattle.sha1.proofs.hmac.Statement.{statement}
 use Rattle.sha1.proofs.hmac.Tie as tie
 

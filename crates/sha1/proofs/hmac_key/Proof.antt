@@ -1,8 +1,8 @@
 use mathlib.Core.Path.{ap, _∙_}
 use native.Mathlib.Omega.{arith}
+use borrow.Author.Needs.{needs}
 use Rattle.sha1.specs.Hmac.{keyState}
 use Rattle.sha1.proofs.HmacLaws.{key-short, key-long}
-use borrow.Author.Needs.{needs}
 use Rattle.sha1.proofs.hmac_key.Statement.{statement}
 use Rattle.sha1.proofs.hmac_key.Tie as tie
 
@@ -12,11 +12,11 @@ slice-aggregate-zero-filled c = search needs
 zero-filled-requires : tie.Need-zero-filled-requires
 zero-filled-requires c κs = search needs
 
-block-key-state-requires : tie.Need-block-key-state-requires
-block-key-state-requires c κs = search needs
+key-state-requires : tie.Need-key-state-requires
+key-state-requires c κs = search needs
 
 returns : tie.Need-returns
-returns c = c .block-key-state .ensures ∙ ap keyState (c .before .zero-filled .ensures) ∙ key-short (c .before .before .before .before .before .args .key .now) (omega arith)
+returns c = c .key-state .ensures ∙ ap keyState (c .before .zero-filled .ensures) ∙ key-short (c .before .before .before .before .before .args .key .now) (omega arith)
 
 slice-aggregate-digest : tie.Need-slice-aggregate-digest
 slice-aggregate-digest c = search needs
@@ -33,11 +33,11 @@ slice-aggregate-zero-filled-3 c = search needs
 zero-filled-requires-2 : tie.Need-zero-filled-requires-2
 zero-filled-requires-2 c κs = search needs
 
-block-key-state-requires-2 : tie.Need-block-key-state-requires-2
-block-key-state-requires-2 c κs = search needs
+key-state-requires-2 : tie.Need-key-state-requires-2
+key-state-requires-2 c κs = search needs
 
 returns-2 : tie.Need-returns-2
-returns-2 c = c .block-key-state2 .ensures ∙ ap keyState (c .before .zero-filled2 .ensures) ∙ key-long (c .before .before .before .before .before .before .before .before .args .key .now) _ (omega arith) (c .before .before .before .before .digest .ensures)
+returns-2 c = c .key-state2 .ensures ∙ ap keyState (c .before .zero-filled2 .ensures) ∙ key-long (c .before .before .before .before .before .before .before .before .args .key .now) _ (omega arith) (c .before .before .before .before .digest .ensures)
 
 pub hmac-key-spec : {M : Type 1} → statement M
 hmac-key-spec =
@@ -45,12 +45,12 @@ hmac-key-spec =
     (tie.spec
     slice-aggregate-zero-filled
     zero-filled-requires
-    block-key-state-requires
+    key-state-requires
     returns
     slice-aggregate-digest
     digest-requires
     slice-aggregate-zero-filled-2
     slice-aggregate-zero-filled-3
     zero-filled-requires-2
-    block-key-state-requires-2
+    key-state-requires-2
     returns-2)

@@ -1,6 +1,6 @@
 use mathlib.Core.Path.{_∙_}
-use Rattle.sha1.proofs.BlockLaws.{four-groups}
 use borrow.Author.Needs.{needs}
+use Rattle.sha1.proofs.BlockLaws.{four-groups}
 use Rattle.sha1.proofs.block.compress.Statement.{statement}
 use Rattle.sha1.proofs.block.compress.Tie as tie
 
@@ -25,9 +25,12 @@ sum-requires c κs = search needs
 returns : tie.Need-returns
 returns c =
     let x = c .before .before .before .before .before .before .before .before .before .before .before .args in
-    c .sum .ensures
-    ∙ four-groups (x .m .now) _ (x .h) _ _ _ _ (c .before .before .before .before .before .before .before .before .before .schedule .ensures) (c .before .before .before .before .before .before .before .twenty-rounds .ensures) (c .before .before .before .before .before .twenty-rounds2 .ensures)
-    (c .before .before .before .twenty-rounds3 .ensures) (c .before .twenty-rounds4 .ensures)
+    let w = c .before .before .before .before .before .before .before .before .before .schedule .ensures in
+    let s₁ = c .before .before .before .before .before .before .before .twenty-rounds .ensures in
+    let s₂ = c .before .before .before .before .before .twenty-rounds2 .ensures in
+    let s₃ = c .before .before .before .twenty-rounds3 .ensures in
+    let s₄ = c .before .twenty-rounds4 .ensures in
+    c .sum .ensures ∙ four-groups (x .m .now) _ (x .h) _ _ _ _ w s₁ s₂ s₃ s₄
 
 pub compress-spec : {M : Type 1} → statement M
 compress-spec =

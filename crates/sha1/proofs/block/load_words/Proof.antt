@@ -1,8 +1,9 @@
-use Prim.Native.Nat.{_+_, _-_, _≤_}
+-- The loop's invariant: w has the first t words of the schedule.
 use mathlib.Core.Path.{_≡_}
+use Prim.Native.Nat.{_-_, _≤_}
 use native.Mathlib.Omega.{arith}
 use borrow.Author.Needs.{needs}
-use Rattle.sha1.specs.Sha1.{Words}
+use Rattle.sha1.specs.Parts.{Words}
 use Rattle.sha1.proofs.BlockLaws.{words-none, words-load}
 use Rattle.sha1.proofs.block.load_words.Statement.{statement}
 use Rattle.sha1.proofs.block.load_words.Tie as tie

@@ -1,10 +1,10 @@
-use Rattle.sha1.specs.Sha1.{round}
 use borrow.Author.Needs.{needs}
+use Rattle.sha1.specs.Sha1.{round}
 use Rattle.sha1.proofs.block.round.Statement.{statement}
 use Rattle.sha1.proofs.block.round.Tie as tie
 
-rotl5-requires : tie.Need-rotl5-requires
-rotl5-requires c κs = search needs
+rotl-requires : tie.Need-rotl-requires
+rotl-requires c κs = search needs
 
 round-function-requires : tie.Need-round-function-requires
 round-function-requires c κs = search needs
@@ -24,8 +24,8 @@ add-requires-3 c κs = search needs
 add-requires-4 : tie.Need-add-requires-4
 add-requires-4 c κs = search needs
 
-rotl30-requires : tie.Need-rotl30-requires
-rotl30-requires c κs = search needs
+rotl-requires-2 : tie.Need-rotl-requires-2
+rotl-requires-2 c κs = search needs
 
 returns : tie.Need-returns
 unfolding round
@@ -35,12 +35,12 @@ pub round-spec : {M : Type 1} → statement M
 round-spec =
     tie.close
     (tie.spec
-    rotl5-requires
+    rotl-requires
     round-function-requires
     add-requires
     add-requires-2
     round-constant-requires
     add-requires-3
     add-requires-4
-    rotl30-requires
+    rotl-requires-2
     returns)

@@ -1,5 +1,5 @@
-use Rattle.sha1.proofs.BlockLaws.{words-all}
 use borrow.Author.Needs.{needs}
+use Rattle.sha1.proofs.BlockLaws.{words-all}
 use Rattle.sha1.proofs.block.schedule.Statement.{statement}
 use Rattle.sha1.proofs.block.schedule.Tie as tie
 

@@ -1,12 +1,12 @@
-use native.Mathlib.Nat.{add-zero, add-assoc}
-use Prim.Native.Nat.{_+_, _-_, _≤_}
+-- The loop's invariant: if w had the words before `from` of a block's schedule, it has those before `from` + i.
 use mathlib.Core.Path.{_≡_}
+use mathlib.Core.List.{List}
+use Prim.Native.Nat.{_+_, _-_, _≤_, ℕ}
+use native.Mathlib.Nat.{add-zero, add-assoc}
 use native.Mathlib.Omega.{arith}
 use borrow.Author.Needs.{needs}
-use Rattle.sha1.specs.Sha1.{Words}
+use Rattle.sha1.specs.Parts.{Words}
 use Rattle.sha1.proofs.BlockLaws.{words-mixed}
-use mathlib.Core.List.{List}
-use Prim.Native.Nat.{ℕ}
 use Rattle.sha1.proofs.block.sixteen_words.Statement.{statement}
 use Rattle.sha1.proofs.block.sixteen_words.Tie as tie
 

@@ -1,10 +1,11 @@
-use mathlib.Core.Path.{_≡_, sym, ap, _∙_}
+use mathlib.Core.Path.{sym, ap, _∙_}
 use mathlib.Core.List.{_++_}
 use Prim.Native.Nat.{ℕ, _+_}
-use lib.ListN.{length, length-append}
-use Rattle.sha1.specs.Sha1.{padding, hashAll, digestOf, sha1After}
-use Rattle.sha1.proofs.MessageLaws.{hash-rest}
 use borrow.Author.Needs.{needs}
+use lib.ListN.{length, length-append}
+use Rattle.sha1.specs.Sha1.{padding, hashAll, digestOf}
+use Rattle.sha1.specs.Parts.{sha1After}
+use Rattle.sha1.proofs.MessageLaws.{hash-rest}
 use Rattle.sha1.proofs.message.digest_after.Statement.{statement}
 use Rattle.sha1.proofs.message.digest_after.Tie as tie
 

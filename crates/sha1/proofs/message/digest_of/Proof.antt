@@ -1,5 +1,5 @@
-use Rattle.sha1.proofs.MessageLaws.{five-words}
 use borrow.Author.Needs.{needs}
+use Rattle.sha1.proofs.MessageLaws.{five-words}
 use Rattle.sha1.proofs.message.digest_of.Statement.{statement}
 use Rattle.sha1.proofs.message.digest_of.Tie as tie
 
@@ -36,7 +36,11 @@ store32-requires-5 c κs = search needs
 returns : tie.Need-returns
 returns c =
     let h = c .before .before .before .before .before .before .before .before .before .before .before .before .before .before .before .args .h in
-    five-words h _ _ _ _ _ (c .before .before .before .before .before .before .before .before .before .before .before .before .before .store32 .ensures) (c .before .before .before .before .before .before .before .before .before .before .store322 .ensures) (c .before .before .before .before .before .before .before .store323 .ensures) (c .before .before .before .before .store324 .ensures) (c .before .store325 .ensures)
+    let d₁ = c .before .before .before .before .before .before .before .before .before .before .before .before .before .store32 .ensures in
+    let d₂ = c .before .before .before .before .before .before .before .before .before .before .store322 .ensures in
+    let d₃ = c .before .before .before .before .before .before .before .store323 .ensures in
+    let d₄ = c .before .before .before .before .store324 .ensures in
+    five-words h _ _ _ _ _ d₁ d₂ d₃ d₄ (c .before .store325 .ensures)
 
 pub digest-of-spec : {M : Type 1} → statement M
 digest-of-spec =

@@ -2,9 +2,9 @@ use mathlib.Core.Path.{sym, ap, _∙_}
 use mathlib.Core.List.{List, _++_}
 use Prim.Native.Nat.{ℕ, _+_}
 use native.Mathlib.Omega.{arith}
+use borrow.Author.Needs.{needs}
 use lib.ListN.{length, set, length-append}
 use Rattle.sha1.proofs.MessageLaws.{stored-end}
-use borrow.Author.Needs.{needs}
 use Rattle.sha1.proofs.message.ended.Statement.{statement}
 use Rattle.sha1.proofs.message.ended.Tie as tie
 

@@ -1,11 +1,11 @@
-use mathlib.Core.Path.{_≡_, ap, ap₂, _∙_}
+use mathlib.Core.Path.{_≡_, _∙_}
 use mathlib.Core.List.{_++_}
 use Prim.Native.Nat.{_<_, _≤_, _%_}
 use native.Mathlib.Omega.{arith}
+use borrow.Author.Needs.{needs}
 use lib.ListN.{length, length-append}
 use Rattle.sha1.specs.Sha1.{compress}
 use Rattle.sha1.proofs.MessageLaws.{hash-last, hash-last-two}
-use borrow.Author.Needs.{needs}
 use Rattle.sha1.proofs.message.last_blocks.Statement.{statement}
 use Rattle.sha1.proofs.message.last_blocks.Tie as tie
 

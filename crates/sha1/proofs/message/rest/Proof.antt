@@ -1,9 +1,9 @@
 use mathlib.Core.Path.{ap, _∙_}
 use mathlib.Core.List.{List, [], _++_, append-nil}
 use Prim.Native.Nat.{ℕ}
+use borrow.Author.Needs.{needs}
 use Rattle.sha1.specs.Sha1.{padding, hashAll}
 use Rattle.sha1.proofs.MessageLaws.{hash-rest}
-use borrow.Author.Needs.{needs}
 use Rattle.sha1.proofs.message.rest.Statement.{statement}
 use Rattle.sha1.proofs.message.rest.Tie as tie
 

@@ -1,11 +1,11 @@
-use mathlib.Core.Path.{refl, sym, ap, _∙_}
+use mathlib.Core.Path.{refl, sym, _∙_}
 use Prim.Native.Nat.{_-_}
 use native.Mathlib.Omega.{arith}
+use borrow.Author.Needs.{needs}
 use lib.ListN.{length}
 use lib.Seq.{length-take-le}
 use Rattle.sha1.specs.Sha1.{padding}
 use Rattle.sha1.proofs.MessageLaws.{hash-joint}
-use borrow.Author.Needs.{needs}
 use Rattle.sha1.proofs.message.rest_in_parts.Statement.{statement}
 use Rattle.sha1.proofs.message.rest_in_parts.Tie as tie
 

@@ -1,5 +1,6 @@
+-- The loop's invariant: s is the hash value after the first i blocks of m.
 use mathlib.Core.Path.{_≡_, refl, ap, _∙_}
-use Prim.Native.Nat.{_+_, _-_, _*_, _≤_}
+use Prim.Native.Nat.{_-_, _≤_}
 use native.Mathlib.Omega.{arith}
 use borrow.Author.Needs.{needs}
 use Rattle.sha1.specs.Sha1.{hashValue, hashAll}

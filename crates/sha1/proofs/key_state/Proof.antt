@@ -1,13 +1,13 @@
-use Rattle.sha1.specs.Hmac.{keyState}
 use borrow.Author.Needs.{needs}
-use Rattle.sha1.proofs.block_key_state.Statement.{statement}
-use Rattle.sha1.proofs.block_key_state.Tie as tie
+use Rattle.sha1.specs.Hmac.{keyState}
+use Rattle.sha1.proofs.key_state.Statement.{statement}
+use Rattle.sha1.proofs.key_state.Tie as tie
 
-pad-requires : tie.Need-pad-requires
-pad-requires c κs = search needs
+xor-pad-requires : tie.Need-xor-pad-requires
+xor-pad-requires c κs = search needs
 
-pad-requires-2 : tie.Need-pad-requires-2
-pad-requires-2 c κs = search needs
+xor-pad-requires-2 : tie.Need-xor-pad-requires-2
+xor-pad-requires-2 c κs = search needs
 
 initial-requires : tie.Need-initial-requires
 initial-requires c κs = search needs
@@ -31,12 +31,12 @@ returns : tie.Need-returns
 unfolding keyState
 returns c = cc
 
-pub block-key-state-spec : {M : Type 1} → statement M
-block-key-state-spec =
+pub key-state-spec : {M : Type 1} → statement M
+key-state-spec =
     tie.close
     (tie.spec
-    pad-requires
-    pad-requires-2
+    xor-pad-requires
+    xor-pad-requires-2
     initial-requires
     slice-aggregate-compress
     compress-requires

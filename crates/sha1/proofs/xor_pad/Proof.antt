@@ -1,11 +1,9 @@
 use mathlib.Core.Path.{_≡_, refl, _∙_}
-use native.Mathlib.Omega.{arith}
-use lib.ListN.{length, replicate}
-use mathlib.Core.Path.{_∙_}
-use Rattle.sha1.proofs.HmacLaws.{pad-over}
 use borrow.Author.Needs.{needs}
-use Rattle.sha1.proofs.pad.Statement.{statement}
-use Rattle.sha1.proofs.pad.Tie as tie
+use lib.ListN.{length, replicate}
+use Rattle.sha1.proofs.HmacLaws.{pad-over}
+use Rattle.sha1.proofs.xor_pad.Statement.{statement}
+use Rattle.sha1.proofs.xor_pad.Tie as tie
 
 slice-aggregate-xor-over : tie.Need-slice-aggregate-xor-over
 slice-aggregate-xor-over c = search needs
@@ -25,8 +23,8 @@ returns c =
     let e : length k ≡ 64 = search needs in
     c .before .xor-over .ensures ∙ pad-over k (replicate 64 (c .before .before .before .before .before .args .v)) (replicate 64 0) e refl refl
 
-pub pad-spec : {M : Type 1} → statement M
-pad-spec =
+pub xor-pad-spec : {M : Type 1} → statement M
+xor-pad-spec =
     tie.close
     (tie.spec
     slice-aggregate-xor-over

@@ -1,0 +1,94 @@
+//! Which number or index a packet gets: mostly the next, often one at a limit of the rules.
+
+use super::set_ups;
+use crate::index::{self, MAX_CONTROL_INDEX};
+use crate::random::Random;
+use crate::replay::WINDOW_LENGTH;
+
+/// Half the sequence numbers.
+const HALF: i64 = 1 << 15;
+const WINDOW: i64 = WINDOW_LENGTH as i64;
+
+/// A sender's next number after its last index.
+pub fn next_number(random: &mut Random, last: u64) -> u16 {
+    let few = random.within(2..=5) as u16;
+    let many = random.within(6..=32_766) as u16;
+    let behind = random.within(32_769..=65_535) as u16;
+    let to_rollover = 0u16.wrapping_sub(index::number(last));
+    let step = random.weighted([
+        (60, 1),
+        (15, few),
+        (5, many),
+        (4, to_rollover),
+        (4, 32_767),
+        (4, 32_768),
+        (4, 0),
+        (4, behind),
+    ]);
+    index::number(last).wrapping_add(step)
+}
+
+/// A first index for a receiver without H: the started count's, at times another count's.
+pub fn first_media(random: &mut Random, started_count: u32) -> i64 {
+    let number = set_ups::number(random);
+    let other_count = random.weighted([(90, 0), (5, 2 * HALF), (5, -2 * HALF)]);
+    index::join(started_count, number) as i64 + other_count
+}
+
+/// An index about the receiver's highest, in, before or behind the window, or half the numbers
+/// away. It may lie beyond either end.
+pub fn next_media(random: &mut Random, highest: u64) -> i64 {
+    let highest = highest as i64;
+    let to_rollover = 2 * HALF - highest % (2 * HALF) - 3 + random.within(0..=6) as i64;
+    let anywhere = random.within(0..=140_000) as i64 - 70_000;
+    let near = near(random);
+    let offset = random.weighted([
+        (80, near),
+        (2, HALF - 1),
+        (2, HALF),
+        (2, 1 - HALF),
+        (1, 2 - HALF),
+        (1, -HALF),
+        (1, HALF + 1),
+        (1, 2 * HALF),
+        (1, -2 * HALF),
+        (4, to_rollover),
+        (2, anywhere),
+    ]);
+    highest + offset
+}
+
+/// A first control index.
+pub fn first_control(random: &mut Random) -> u64 {
+    let any = random.within(0..=MAX_CONTROL_INDEX);
+    let near_end = near_control_end(random);
+    random.weighted([(4, 0), (2, 1), (2, 64), (2, any), (2, near_end)])
+}
+
+/// A control index about the receiver's highest.
+pub fn next_control(random: &mut Random, highest: u64) -> u64 {
+    let any = random.within(0..=MAX_CONTROL_INDEX);
+    let near_end = near_control_end(random);
+    let near = (highest as i64 + near(random)).clamp(0, MAX_CONTROL_INDEX as i64) as u64;
+    random.weighted([(96, near), (1, any), (1, near_end)])
+}
+
+fn near_control_end(random: &mut Random) -> u64 {
+    MAX_CONTROL_INDEX - random.within(0..=3)
+}
+
+/// A distance within the window or a little beyond.
+fn near(random: &mut Random) -> i64 {
+    let ahead = random.within(2..=8) as i64;
+    let behind = -(random.within(1..=WINDOW_LENGTH - 2) as i64);
+    let beyond = -(random.within(WINDOW_LENGTH + 1..=WINDOW_LENGTH + 240) as i64);
+    random.weighted([
+        (35, 1),
+        (14, ahead),
+        (30, behind),
+        (5, 0),
+        (5, 1 - WINDOW),
+        (5, -WINDOW),
+        (3, beyond),
+    ])
+}

@@ -1,0 +1,89 @@
+//! The comparison passes the reference and fails whatever differs from it.
+
+use reference::compare::Report;
+use reference::generate::make_trace;
+use reference::trace::answer_trace;
+use std::process::{Command, Output};
+
+fn compare(program: &str, seed: u64, calls: u64) -> Output {
+    Command::new(env!("CARGO_BIN_EXE_compare"))
+        .args(["--program", program, "--seed", &seed.to_string(), "--calls", &calls.to_string()])
+        .output()
+        .unwrap()
+}
+
+fn last_line(output: &Output) -> String {
+    let text = String::from_utf8_lossy(&output.stdout);
+    text.lines().last().unwrap_or_default().to_string()
+}
+
+#[test]
+fn the_reference_passes() {
+    let output = compare(env!("CARGO_BIN_EXE_answer"), 7, 30_000);
+    let line = last_line(&output);
+    assert!(output.status.success(), "{}", String::from_utf8_lossy(&output.stdout));
+    assert!(line.ends_with(" passed, 0 failed"), "{line}");
+    let passed: u64 = line.split(' ').next().unwrap().parse().unwrap();
+    assert!(passed >= 30_000);
+    assert!(String::from_utf8_lossy(&output.stdout).starts_with("seed 7\n"));
+}
+
+#[test]
+fn a_wrong_answerer_fails() {
+    let output = compare(env!("CARGO_BIN_EXE_wrong-answer"), 7, 10_000);
+    let text = String::from_utf8_lossy(&output.stdout).into_owned();
+    assert_eq!(output.status.code(), Some(1));
+    assert!(!last_line(&output).ends_with(" 0 failed"));
+    for part in ["receive media: packet of", "expected  receive media", "given     receive media"] {
+        assert!(text.contains(part), "{text}");
+    }
+}
+
+#[test]
+fn a_program_that_cannot_run_fails() {
+    assert_eq!(compare("./no-such-program", 7, 10).status.code(), Some(2));
+}
+
+#[test]
+fn a_run_that_shows_too_little_fails() {
+    let output = compare(env!("CARGO_BIN_EXE_answer"), 7, 10);
+    assert_eq!(output.status.code(), Some(1));
+    assert!(String::from_utf8_lossy(&output.stdout).contains("never met: "));
+}
+
+#[test]
+fn a_seed_fixes_its_trace() {
+    assert_eq!(make_trace(5, 500), make_trace(5, 500));
+    assert_ne!(make_trace(5, 500), make_trace(6, 500));
+}
+
+#[test]
+fn make_trace_and_answer_run_as_programs() {
+    let made = Command::new(env!("CARGO_BIN_EXE_make-trace"))
+        .args(["--seed", "5", "--calls", "500"])
+        .output()
+        .unwrap();
+    assert!(made.status.success());
+    assert_eq!(made.stdout, make_trace(5, 500));
+}
+
+#[test]
+fn every_byte_of_the_answers_counts() {
+    let trace = make_trace(9, 30);
+    let answers = answer_trace(&trace);
+    let failures = |answers: &[u8]| {
+        let mut report = Report::default();
+        report.compare(&trace, answers);
+        report.failed
+    };
+    assert_eq!(failures(&answers), 0);
+    // The first records whole, then a byte here and there.
+    for place in (0..60).chain((60..answers.len()).step_by(answers.len() / 200)) {
+        let mut changed = answers.clone();
+        changed[place] ^= 1;
+        assert!(failures(&changed) > 0, "byte {place}");
+    }
+    assert!(failures(&answers[..answers.len() - 1]) > 0);
+    assert!(failures(&[]) > 0);
+    assert!(failures(&[&answers[..], &[0]].concat()) > 0);
+}

@@ -1,0 +1,181 @@
+//! Contexts: what no trace reaches, and what a refusal leaves alone.
+
+mod common;
+
+use common::{receiver, rtcp, rtp, sender, set_up};
+use reference::context::{Finished, Receiver, Sender};
+use reference::index::{MAX_CONTROL_INDEX, MAX_MEDIA_INDEX};
+use reference::refusal::Refusal;
+use reference::session::Session;
+use reference::settings::{SetUp, Start};
+
+const SPENT_CONTROL: u64 = 1 << 31;
+
+#[test]
+fn a_media_sender_is_spent_above_the_last_index() {
+    let mut sender = sender(&set_up());
+    sender.last_index = Some(MAX_MEDIA_INDEX - 1);
+    let mut out = [0xa5; 100];
+    let finished = sender.send_media(&rtp(65_535, 5), &mut out);
+    assert_eq!(finished, Ok(Finished { index: MAX_MEDIA_INDEX, length: 27 }));
+    let (before, mut out) = (sender.clone(), [0xa5; 100]);
+    assert_eq!(sender.send_media(&rtp(0, 5), &mut out), Err(Refusal::Spent));
+    assert_eq!(sender.send_media(&rtp(32_766, 5), &mut out), Err(Refusal::Spent));
+    assert_eq!(sender.send_media(&rtp(65_535, 5), &mut out), Err(Refusal::Order));
+    assert_eq!((sender, out), (before, [0xa5; 100]));
+}
+
+#[test]
+fn a_control_sender_is_spent_after_2_to_the_31() {
+    let mut sender = sender(&set_up());
+    sender.control_sent = SPENT_CONTROL - 1;
+    let mut out = [0xa5; 100];
+    let finished = sender.send_control(&rtcp(16), &mut out);
+    assert_eq!(finished, Ok(Finished { index: SPENT_CONTROL - 1, length: 38 }));
+    assert_eq!(out[24..28], [0xff; 4]);
+    let (before, mut out) = (sender.clone(), [0xa5; 100]);
+    assert_eq!(sender.send_control(&rtcp(16), &mut out), Err(Refusal::Spent));
+    assert_eq!(sender.send_control(&rtcp(16), &mut out[..10]), Err(Refusal::Room));
+    assert_eq!((sender, out), (before, [0xa5; 100]));
+}
+
+/// Both calls of a sender that no set-up or run gives.
+fn assert_sender_is_refused(mut sender: Sender) {
+    let (before, mut out) = (sender.clone(), [0xa5; 100]);
+    assert_eq!(sender.send_media(&rtp(1, 5), &mut out), Err(Refusal::Setup));
+    assert_eq!(sender.send_control(&rtcp(4), &mut out), Err(Refusal::Setup));
+    assert_eq!((sender, out), (before, [0xa5; 100]));
+}
+
+/// Both calls of a receiver that no set-up or run gives.
+fn assert_receiver_is_refused(mut receiver: Receiver) {
+    let (before, mut out) = (receiver.clone(), [0xa5; 100]);
+    assert_eq!(receiver.receive_media(&rtp(1, 30), &mut out), Err(Refusal::Setup));
+    assert_eq!(receiver.receive_control(&rtcp(40), &mut out), Err(Refusal::Setup));
+    assert_eq!((receiver, out), (before, [0xa5; 100]));
+}
+
+#[test]
+fn closed_contexts_and_marks_beyond_the_ends_are_refused() {
+    assert_sender_is_refused(Sender::closed());
+    assert_receiver_is_refused(Receiver::closed());
+    let good = sender(&set_up());
+    assert_sender_is_refused(Sender { last_index: Some(MAX_MEDIA_INDEX + 1), ..good.clone() });
+    assert_sender_is_refused(Sender { control_sent: SPENT_CONTROL + 1, ..good });
+    let mut far = receiver(&set_up(), 0, None);
+    far.media.highest = Some(MAX_MEDIA_INDEX + 1);
+    assert_receiver_is_refused(far);
+    let mut far = receiver(&set_up(), 0, None);
+    far.control.highest = Some(MAX_CONTROL_INDEX + 1);
+    assert_receiver_is_refused(far);
+}
+
+#[test]
+fn contexts_with_lengths_off_the_list_are_refused() {
+    for (tag_length, mki_length) in [(0, 0), (5, 0), (11, 0), (20, 0), (10, 5), (4, 6)] {
+        let mut bad_sender = sender(&set_up());
+        let mut bad_receiver = receiver(&set_up(), 0, None);
+        for session in [&mut bad_sender.session, &mut bad_receiver.session] {
+            let settings = &mut session.as_mut().unwrap().settings;
+            settings.media_tag_length = tag_length;
+            settings.mki = vec![1; mki_length];
+        }
+        assert_sender_is_refused(bad_sender);
+        assert_receiver_is_refused(bad_receiver);
+    }
+}
+
+#[test]
+fn every_set_up_value_off_the_list_is_refused() {
+    for byte in 0..=255 {
+        let string = vec![7; usize::from(byte)];
+        let cases = [
+            (matches!(byte, 4 | 10), SetUp { tag_length: byte, ..set_up() }),
+            (byte < 2, SetUp { cipher: byte, ..set_up() }),
+            (byte == 16, SetUp { master_key: string.clone(), ..set_up() }),
+            (byte == 14, SetUp { master_salt: string.clone(), ..set_up() }),
+            (byte <= 4, SetUp { mki: string, ..set_up() }),
+        ];
+        for (is_good, values) in cases {
+            let verdict = Refusal::Setup.unless(is_good);
+            let start = Start { rollover_count: 3, last_number: Some(4) };
+            let (sender, sender_verdict) = Sender::set_up(&values);
+            let (receiver, receiver_verdict) = Receiver::set_up(&values, start);
+            assert_eq!((sender_verdict, receiver_verdict), (verdict, verdict), "{values:?}");
+            assert_eq!(sender == Sender::closed(), !is_good);
+            assert_eq!(receiver == Receiver::closed(), !is_good);
+        }
+    }
+}
+
+#[test]
+fn the_window_holds_on_both_sides_of_a_rollover() {
+    let session = Session::set_up(&set_up()).unwrap();
+    let mut receiver = receiver(&set_up(), 1, Some(20));
+    let mut out = [0; 100];
+    for index in [65_556u64, 65_530, 65_493, 65_541, 65_530] {
+        let packet = session.made_media(&rtp(index as u16, 9), index).unwrap();
+        let answer = receiver.receive_media(&packet, &mut out).map(|finished| finished.index);
+        let is_repeat = index == 65_530 && receiver.media.accepted.contains(&65_541);
+        assert_eq!(answer, if is_repeat { Err(Refusal::Repeat) } else { Ok(index) });
+    }
+}
+
+#[test]
+fn the_receiver_follows_the_e_bit() {
+    for (cipher, e_bit) in [(0, false), (0, true), (1, false), (1, true)] {
+        let values = SetUp { cipher, mki: vec![9, 8], ..set_up() };
+        let session = Session::set_up(&values).unwrap();
+        let packet = session.made_control(&rtcp(16), 70, e_bit).unwrap();
+        assert_eq!(packet[8..24] == [0xab; 16], cipher == 0 || !e_bit);
+        let mut out = [0; 24];
+        let answer = receiver(&values, 0, None).receive_control(&packet, &mut out);
+        assert_eq!(answer, Ok(Finished { index: 70, length: 24 }));
+        assert_eq!(out[..], rtcp(16));
+    }
+}
+
+#[test]
+fn refusals_come_in_the_order_of_the_table() {
+    let values = SetUp { mki: vec![1, 2, 3], ..set_up() };
+    let session = Session::set_up(&values).unwrap();
+    let mut receiver = receiver(&values, 0, Some(500));
+    // Everything is wrong with this packet; each repair brings out the next row.
+    let mut packet = session.made_media(&rtp(400, 2100), 400).unwrap();
+    let last = packet.len() - 1;
+    packet[last] ^= 1;
+    packet[last - 12] ^= 1;
+    packet[0] ^= 0x80;
+    packet[8] ^= 1;
+    let mut answer = |packet: &[u8], room| receiver.receive_media(packet, &mut vec![0; room]);
+    assert_eq!(answer(&packet, 0), Err(Refusal::Long));
+    packet.drain(100..200);
+    assert_eq!(answer(&packet, 0), Err(Refusal::Shape));
+    packet[0] ^= 0x80;
+    assert_eq!(answer(&packet, 0), Err(Refusal::Stream));
+    packet[8] ^= 1;
+    assert_eq!(answer(&packet, packet.len() - 14), Err(Refusal::Room));
+    assert_eq!(answer(&packet, packet.len() - 13), Err(Refusal::Key));
+    packet[last - 100 - 12] ^= 1;
+    assert_eq!(answer(&packet, 2100), Err(Refusal::Old));
+    packet[2..4].copy_from_slice(&500u16.to_be_bytes());
+    assert_eq!(answer(&packet, 2100), Err(Refusal::Forged));
+}
+
+#[test]
+fn any_bytes_get_an_answer() {
+    let mut random = reference::random::Random::new(3);
+    let mut sender = sender(&set_up());
+    let mut receiver = receiver(&set_up(), 0, None);
+    for length in 0..300 {
+        let mut packet = random.bytes(length);
+        for first in [0x80, 0x8f, 0x90, 0x9f, 0xbf, 0x00] {
+            packet.iter_mut().take(1).for_each(|byte| *byte = first);
+            let mut out = vec![0; random.length(0..=300)];
+            let _ = sender.send_media(&packet, &mut out);
+            let _ = sender.send_control(&packet, &mut out);
+            let _ = receiver.receive_media(&packet, &mut out);
+            let _ = receiver.receive_control(&packet, &mut out);
+        }
+    }
+}

@@ -1,0 +1,301 @@
+//! Slips that implementations make. Random traces must bring each of them to light: a
+//! comparison that no slip can fail would show nothing.
+
+use reference::context::{Receiver, Sender};
+use reference::generate::make_trace;
+use reference::index::{self, MAX_MEDIA_INDEX};
+use reference::layout::{ProtectedControl, ProtectedMedia, RtpHeader};
+use reference::refusal::Refusal;
+use reference::replay::ReplayList;
+use reference::settings::{Cipher, Settings};
+use reference::trace::{Answer, Call, Contexts, Record, Records, Request, FINISHED, MISFIT};
+
+/// A call on a packet that the reference has answered. A slip changes the answer or the contexts
+/// that are left.
+struct Done<'a> {
+    call: Option<Call>,
+    room: usize,
+    packet: &'a [u8],
+    before: &'a Contexts,
+    after: &'a mut Contexts,
+    answer: &'a mut Answer,
+}
+
+impl Done<'_> {
+    fn finished(&self, call: Call) -> bool {
+        self.call == Some(call) && self.answer.outcome == FINISHED
+    }
+
+    fn refused(&self, call: Call, refusal: Refusal) -> bool {
+        self.call == Some(call) && self.answer.outcome == refusal.number()
+    }
+
+    fn settings(&self) -> Settings {
+        self.before.receiver.session.as_ref().unwrap().settings.clone()
+    }
+
+    /// The estimate of a received media packet's index.
+    fn estimate(&self) -> i128 {
+        let receiver = &self.before.receiver;
+        let number = RtpHeader::read(self.packet).unwrap().number;
+        index::estimate(receiver.media.highest, receiver.started_count, number)
+    }
+
+    fn distance(&self) -> i128 {
+        self.before
+            .receiver
+            .media
+            .highest
+            .map_or(0, |highest| self.estimate() - i128::from(highest))
+    }
+
+    /// Refuses after all.
+    fn refuse(&mut self, refusal: Refusal) {
+        let buffer = vec![0xa5; self.room];
+        *self.answer = Answer::to_call(self.answer.op, Err(refusal), buffer);
+        *self.after = self.before.clone();
+    }
+
+    /// Opens the packet at an index after all, if its tag is right there.
+    fn open_at(&mut self, index: u64) {
+        *self.answer = self.answer_at(index);
+    }
+
+    fn has_good_tag(&self) -> bool {
+        self.answer_at(self.estimate() as u64).outcome == FINISHED
+    }
+
+    /// What a receiver with nothing accepted says to the packet at an index.
+    fn answer_at(&self, index: u64) -> Answer {
+        let mut receiver = Receiver {
+            started_count: index::rollover_count(index),
+            media: ReplayList::default(),
+            ..self.before.receiver.clone()
+        };
+        let mut buffer = vec![0xa5; self.room];
+        let answer = receiver.receive_media(self.packet, &mut buffer);
+        Answer::to_call(self.answer.op, answer, buffer)
+    }
+}
+
+type Slip = (&'static str, fn(&mut Done));
+
+use Call::{ReceiveControl, ReceiveMedia, SendControl, SendMedia, SetUpReceiver, SetUpSender};
+
+const SLIPS: &[Slip] = &[
+    ("H moves before the tag is checked", |d| {
+        if d.refused(ReceiveMedia, Refusal::Forged) {
+            let index = d.estimate() as u64;
+            d.after.receiver.media.highest = d.after.receiver.media.highest.max(Some(index));
+        }
+    }),
+    ("H is set from the first packet seen", |d| {
+        if d.refused(ReceiveMedia, Refusal::Forged) && d.before.receiver.media.highest.is_none() {
+            d.after.receiver.media.highest = Some(d.estimate() as u64);
+        }
+    }),
+    ("the tag has H's rollover count", |d| {
+        let highest = d.before.receiver.media.highest;
+        let differs = |h| index::rollover_count(h) != index::rollover_count(d.answer.index);
+        if d.finished(ReceiveMedia) && highest.is_some_and(differs) {
+            d.refuse(Refusal::Forged);
+        }
+    }),
+    ("the MKI stands behind the tag", |d| {
+        if d.finished(SendMedia) {
+            let settings = &d.before.sender.session.as_ref().unwrap().settings;
+            let end = usize::from(d.answer.length);
+            d.answer.buffer[end - settings.media_expansion()..end].rotate_left(settings.mki.len());
+        }
+    }),
+    ("an index below zero is opened near 2^48", |d| {
+        if d.refused(ReceiveMedia, Refusal::Old) && d.estimate() < 0 {
+            d.open_at((d.estimate() + i128::from(MAX_MEDIA_INDEX) + 1) as u64);
+        }
+    }),
+    ("an index above the last is opened near zero", |d| {
+        if d.refused(ReceiveMedia, Refusal::Spent) {
+            d.open_at((d.estimate() - i128::from(MAX_MEDIA_INDEX) - 1) as u64);
+        }
+    }),
+    ("the media salt is used for control", |d| {
+        for session in [&mut d.after.sender.session, &mut d.after.receiver.session] {
+            session.iter_mut().for_each(|session| session.control.salt = session.media.salt);
+        }
+    }),
+    ("the window spans 65", |d| {
+        if d.refused(ReceiveMedia, Refusal::Old) && d.distance() == -64 {
+            d.open_at(d.estimate() as u64);
+        }
+    }),
+    ("the window spans 63", |d| {
+        if d.finished(ReceiveMedia) && d.distance() == -63 {
+            d.refuse(Refusal::Old);
+        }
+    }),
+    ("half the numbers away is behind", |d| {
+        if d.finished(ReceiveMedia) && d.distance() == 32_768 {
+            d.refuse(Refusal::Old);
+        }
+    }),
+    ("the started H counts as let in", |d| {
+        if d.finished(ReceiveMedia) && d.before.receiver.media.highest == Some(d.answer.index) {
+            d.refuse(Refusal::Repeat);
+        }
+    }),
+    ("accepted media indices are forgotten", |d| d.after.receiver.media.accepted.clear()),
+    ("accepted control indices are forgotten", |d| d.after.receiver.control.accepted.clear()),
+    ("late packets are not marked", |d| {
+        if d.finished(ReceiveMedia) && d.distance() < 0 {
+            d.after.receiver.media.accepted.remove(&d.answer.index);
+        }
+    }),
+    ("a refusal touches the buffer", |d| {
+        if d.refused(ReceiveControl, Refusal::Forged) {
+            d.answer.buffer.iter_mut().take(1).for_each(|byte| *byte = 0);
+        }
+    }),
+    ("a success clears the bytes behind the packet", |d| {
+        if d.finished(SendControl) {
+            d.answer.buffer[usize::from(d.answer.length)..].fill(0);
+        }
+    }),
+    ("a refused set-up leaves the context", |d| {
+        if d.refused(SetUpReceiver, Refusal::Setup) {
+            *d.after = d.before.clone();
+        }
+    }),
+    ("a set-up that doesn't fit closes the context", |d| {
+        if d.call == Some(SetUpSender) && d.answer.outcome == MISFIT {
+            d.after.sender = Sender::closed();
+        }
+    }),
+    ("a refused packet takes a media index", |d| {
+        if d.refused(SendMedia, Refusal::Room) {
+            let number = RtpHeader::read(d.packet).unwrap().number;
+            if let Ok(index) = index::next_sent(d.before.sender.last_index, number) {
+                d.after.sender.last_index = Some(index);
+            }
+        }
+    }),
+    ("a refused packet takes a control index", |d| {
+        if d.refused(SendControl, Refusal::Room) {
+            d.after.sender.control_sent += 1;
+        }
+    }),
+    ("control counts from one", |d| {
+        if d.finished(SendControl) {
+            d.answer.index += 1;
+        }
+    }),
+    ("the cipher decides, not the E bit", |d| {
+        if d.finished(ReceiveControl) {
+            let settings = d.settings();
+            let e_bit = ProtectedControl::read(d.packet, &settings).unwrap().is_enciphered;
+            if e_bit != (settings.cipher != Cipher::Null) {
+                d.refuse(Refusal::Forged);
+            }
+        }
+    }),
+    ("the header may reach into MKI and tag", |d| {
+        if d.refused(ReceiveMedia, Refusal::Shape) && RtpHeader::read(d.packet).is_some() {
+            d.refuse(Refusal::Forged);
+        }
+    }),
+    ("the extension's length wraps at 2^16", |d| {
+        if d.refused(SendMedia, Refusal::Shape) && d.packet.len() >= 12 {
+            let mut packet = d.packet.to_vec();
+            let count = 14 + 4 * usize::from(packet[0] & 0x0f);
+            packet.iter_mut().skip(count).take(1).for_each(|byte| *byte &= 0x3f);
+            if RtpHeader::read(&packet).is_some() {
+                d.refuse(Refusal::Room);
+            }
+        }
+    }),
+    ("a sender's set-up changes the receiver's keys", |d| {
+        if d.finished(SetUpSender) && d.after.receiver.session.is_some() {
+            d.after.receiver.session = d.after.sender.session.clone();
+        }
+    }),
+    ("SHAPE before LONG", |d| {
+        let settings = d.before.receiver.session.as_ref().map(|session| &session.settings);
+        let is_misshapen = |settings| ProtectedMedia::read(d.packet, settings).is_none();
+        if d.refused(ReceiveMedia, Refusal::Long) && settings.is_some_and(is_misshapen) {
+            d.refuse(Refusal::Shape);
+        }
+    }),
+    ("ROOM before STREAM", |d| {
+        if d.refused(ReceiveMedia, Refusal::Stream) {
+            let packet = ProtectedMedia::read(d.packet, &d.settings()).unwrap().authenticated.len();
+            if d.room < packet {
+                d.refuse(Refusal::Room);
+            }
+        }
+    }),
+    ("KEY before ROOM", |d| {
+        if d.refused(ReceiveMedia, Refusal::Room) {
+            let settings = d.settings();
+            if ProtectedMedia::read(d.packet, &settings).unwrap().mki != settings.mki {
+                d.refuse(Refusal::Key);
+            }
+        }
+    }),
+    ("OLD before KEY", |d| {
+        if d.refused(ReceiveMedia, Refusal::Key) && d.distance() < -63 {
+            d.refuse(Refusal::Old);
+        }
+    }),
+    ("ORDER before ROOM", |d| {
+        if d.refused(SendMedia, Refusal::Room) {
+            let number = RtpHeader::read(d.packet).unwrap().number;
+            if index::next_sent(d.before.sender.last_index, number).is_err() {
+                d.refuse(Refusal::Order);
+            }
+        }
+    }),
+    ("FORGED before OLD", |d| {
+        if d.refused(ReceiveMedia, Refusal::Old) && d.estimate() >= 0 && !d.has_good_tag() {
+            d.refuse(Refusal::Forged);
+        }
+    }),
+    ("FORGED before REPEAT", |d| {
+        if d.refused(ReceiveMedia, Refusal::Repeat) && !d.has_good_tag() {
+            d.refuse(Refusal::Forged);
+        }
+    }),
+];
+
+/// Answers a record with a slip.
+fn slipped(contexts: &mut Contexts, record: &Record, slip: fn(&mut Done)) -> Answer {
+    let before = contexts.clone();
+    let mut answer = contexts.answer(record);
+    let (room, packet) = match Request::read(record) {
+        Some(Request::Packet { room, packet, .. }) => (room, packet),
+        _ => (0, &[][..]),
+    };
+    let call = Call::from_op(record.op);
+    slip(&mut Done { call, room, packet, before: &before, after: contexts, answer: &mut answer });
+    answer
+}
+
+/// How many records it takes until the answers differ.
+fn records_until_found(trace: &[u8], slip: fn(&mut Done)) -> Option<usize> {
+    let (mut right, mut wrong) = (Contexts::default(), Contexts::default());
+    Records::new(trace)
+        .position(|record| right.answer(&record) != slipped(&mut wrong, &record, slip))
+}
+
+#[test]
+fn every_slip_is_found() {
+    let trace = make_trace(11, 30_000);
+    for (name, slip) in SLIPS {
+        let found = records_until_found(&trace, *slip);
+        println!("{name}: {found:?}");
+        assert!(found.is_some(), "{name}");
+    }
+}
+
+#[test]
+fn no_slip_is_found_where_there_is_none() {
+    assert_eq!(records_until_found(&make_trace(11, 3000), |_| {}), None);
+}

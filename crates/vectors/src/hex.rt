@@ -40,7 +40,7 @@ pub fn print_bytes(name: &[u8], b: &[u8]) {
     io::write_all(1, b"\n");
 }
 
-fn print_digits(b: &[u8]) {
+pub fn print_digits(b: &[u8]) {
     let mut i = 0;
     while i < b.len() {
         io::print_hex(1, wide(b[i]), 2);

@@ -9,6 +9,7 @@ use Rattle.octets.specs.BigEndian.{toBytes}
 use Rattle.rtp.specs.Rtp.{headerOf}
 use Rattle.rtp.specs.declared.Header.{Header}
 use Rattle.rtp.specs.declared.Header.the-variants.{Rtp, NotRtp}
+use Rattle.transforms.specs.CounterMode.{initialCounter}
 use Rattle.replay.specs.Index.{ahead, distance, estimate, placed, nextIndex, nextMedia}
 use Rattle.replay.specs.Window.{windowLength, windowStart, windowVerdict}
 use Rattle.replay.specs.declared.index.Highest.the-variants.{At}
@@ -22,11 +23,12 @@ use Rattle.replay.specs.declared.window.Verdict.the-variants as verdict
 use Rattle.replay.specs.declared.window.Window.{Window}
 
 -- what is given: a receiver's H, with nothing accepted yet, or a sender's last index, and the number of a packet; or an RTP packet with
--- so many contributing sources and an extension of so many words
+-- so many contributing sources and an extension of so many words; or what a packet's initial counter is made of
 pub data Given : Type 0 where
   receiver : (highest number : ℕ) → Given
   sender : (last number : ℕ) → Given
   packet : (sources words : ℕ) → Given
+  counter : (salt ssrc index : ℕ) → Given
 
 -- the packet passes, or is refused under a name of 01's table
 pub data Answer : Type 0 where
@@ -37,10 +39,12 @@ pub data Answer : Type 0 where
   ORDER : Answer
   SHAPE : Answer
 
--- what is shown: the distance d or the step, the index, and the answer; or the header's length, and the answer
+-- what is shown: the distance d or the step, the index, and the answer; or the header's length, and the answer; or
+-- the sixteen bytes of an IV
 pub data Shown : Type 0 where
   at : (d index : ℤ) → Answer → Shown
   header : (bytes : ℕ) → Answer → Shown
+  iv : (bytes : List ℕ) → Shown
 
 pub record Case : Type 0 where
   pub number : ℕ
@@ -48,12 +52,15 @@ pub record Case : Type 0 where
   pub expected : Shown
 
 -- ---- the list. A row is: receiver H number, at d index answer; sender last number, at step index answer; packet sources words, header
--- length answer
+-- length answer; counter salt SSRC index, iv its four words
 abbrev d : ℕ → Given → Shown → Case
 d n g e = record { number = n; given = g; expected = e }
 
 abbrev minus : ℕ → ℤ
 minus n = negℤ (pos n)
+
+abbrev words : (a b c d : ℕ) → List ℕ
+words a b c d = toBytes 4 a ++ toBytes 4 b ++ toBytes 4 c ++ toBytes 4 d
 
 abbrev pub cases : List Case
 cases =
@@ -69,10 +76,11 @@ cases =
     ∷ d 9 (sender 65535 0) (at (pos 1) (pos 65536) passes)
     ∷ d 10 (sender 10 32777) (at (pos 32767) (pos 32777) passes)
     ∷ d 10 (sender 10 32778) (at (pos 32768) (pos 32778) ORDER)
+    ∷ d 11 (counter 0 1 1) (iv (words 0x00000000 0x00000001 0x00000000 0x00010000))
     ∷ d 12 (packet 2 3) (header 36 passes)
     ∷ []
 
--- ---- what the definitions show: those that the contracts of crates `replay` and `rtp` cite
+-- ---- what the definitions show: those that the contracts of crates `replay`, `rtp` and `transforms` cite
 abbrev judgement : Verdict → Answer
 judgement verdict.New = passes
 judgement verdict.Old = OLD
@@ -101,6 +109,7 @@ abbrev pub shown : (rollover : ℕ) → Given → Shown
 shown r (receiver h q) = at (distance h q) (estimate r q (At h)) (received (windowStart (At h)) (placed (estimate r q (At h))))
 shown r (sender l q) = at (pos (ahead l q)) (pos (nextIndex (last.At l) q)) (sent (nextMedia (last.At l) q))
 shown r (packet sources words) = read (headerOf (bytesOf sources words))
+shown r (counter salt ssrc index) = iv (toBytes 16 (initialCounter salt ssrc index))
 
 -- ---- the claim about all rows
 abbrev pub CasesHold : Type 0

@@ -1,0 +1,11 @@
+mod PartLaws
+mod BlockBytes
+pub mod KeystreamLaws
+mod CounterLaws
+mod FillLaws
+pub mod StreamLaws
+pub mod CipherLaws
+mod EncipherLaws
+pub mod TagLaws
+pub mod DerivationLaws
+pub mod Examples

@@ -1,0 +1,5 @@
+pub mod CounterMode
+pub mod KeyDerivation
+pub mod Ciphers
+pub mod Tag
+pub mod Rfc3711

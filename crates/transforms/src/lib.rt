@@ -1,0 +1,25 @@
+// The cryptographic transforms of RFC 3711, section 4: keystream, authentication tag, key derivation. Bytes in, bytes out, no state.
+mod buffers;
+mod ciphers;
+mod counter_mode;
+mod derivation;
+mod tag;
+
+pub use ciphers::encipher;
+pub use derivation::derived;
+pub use tag::control_tag;
+pub use tag::media_tag;
+
+// The session keys of one direction, media or control, ready for use: the expanded cipher key, the salt, and what HMAC keeps of the
+// authentication key (its two hash values; the key itself is not needed again).
+pub struct SessionKeys {
+    pub round: [u32; 44],
+    pub tag: sha1::HmacKey,
+    pub salt: [u8; 14],
+}
+
+// RFC 3711's ciphers.
+pub enum Cipher {
+    Aes,
+    Null,
+}

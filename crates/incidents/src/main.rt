@@ -1,0 +1,14 @@
+// Replays the losses that this library was built against, and prints the answer to each call in words.
+mod cases;
+mod damage;
+mod packet;
+mod repeats;
+mod rollover;
+mod say;
+
+fn main() {
+    repeats::run();
+    rollover::run();
+    damage::run();
+    cases::run();
+}

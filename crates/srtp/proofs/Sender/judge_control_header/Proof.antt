@@ -1,0 +1,64 @@
+use mathlib.Core.Path.{_≡_}
+use native.Mathlib.Omega.{arith}
+use borrow.Author.Needs.{needs}
+use lib.ListN.{length}
+use Rattle.srtp.proofs.SenderRows.{sender-listed, control-stream, control-room, control-order, control-spent, control-index}
+use Rattle.srtp.proofs.Sender.judge_control_header.Statement.{statement}
+use Rattle.srtp.proofs.Sender.judge_control_header.Tie as tie
+
+-- the length of the array, known at the entry
+mki-long : (s : tie.Start) → length (s .args .self .session .settings .mki) ≡ 4
+mki-long s = search needs
+
+returns : tie.Need-returns
+returns c = search control-stream
+
+add-need : tie.Need-add-need
+add-need c = search needs
+
+add-need-2 : tie.Need-add-need-2
+add-need-2 c = let s = c .before .before .before .before .before .before in omega (arith, s, sender-listed (s .args .self) (s .pre .1 .1))
+
+add-need-3 : tie.Need-add-need-3
+add-need-3 c = let s = c .before .before .before .before .before .before in omega (arith, s, sender-listed (s .args .self) (s .pre .1 .1))
+
+returns-2 : tie.Need-returns-2
+returns-2 c = search (control-room, mki-long (c .before .before .before .before .before .before .before))
+
+next-index-requires : tie.Need-next-index-requires
+next-index-requires c κs = search needs
+
+enum-known-next : tie.Need-enum-known-next
+enum-known-next c = search needs
+
+enum-told : tie.Need-enum-told
+enum-told c = search needs
+
+enum-told-2 : tie.Need-enum-told-2
+enum-told-2 c = search needs
+
+returns-3 : tie.Need-returns-3
+returns-3 c = search (control-index, mki-long (c .before .before .before .before .before .before .before .before .before .before .before .before))
+
+returns-4 : tie.Need-returns-4
+returns-4 c = search (control-order, mki-long (c .before .before .before .before .before .before .before .before .before .before .before))
+
+returns-5 : tie.Need-returns-5
+returns-5 c = search (control-spent, mki-long (c .before .before .before .before .before .before .before .before .before .before .before))
+
+pub judge-control-header-spec : {M : Type 1} → statement M
+judge-control-header-spec =
+    tie.close
+    (tie.spec
+    returns
+    add-need
+    add-need-2
+    add-need-3
+    returns-2
+    next-index-requires
+    enum-known-next
+    enum-told
+    enum-told-2
+    returns-3
+    returns-4
+    returns-5)

@@ -1,0 +1,344 @@
+// Receiving: a packet is judged whole, the tag last, before anything is written; then it is opened and its index marked.
+ghost use mathlib.Core.Path.{_≡_};
+ghost use mathlib.Core.Bool.{true};
+ghost use Prim.Native.Nat.{_≤_, _<_, _^_};
+ghost use lib.ListN.{length};
+ghost use Rattle.octets.specs.Equal.{same};
+ghost use Rattle.transforms.specs.Tag.{mediaTag, controlTag};
+ghost use Rattle.srtp.specs.Refusals.{judged};
+ghost use Rattle.srtp.specs.Contexts.{highestAtMost, receiverListed};
+ghost use Rattle.srtp.specs.Calls.{receiveMedia, receiveControl};
+ghost use Rattle.srtp.specs.Outcomes.{ReceiverShows};
+ghost use Rattle.srtp.specs.ReceiverSteps.{judgedAs, addressRows, replayRows, mediaAtVerdict, controlAtVerdict, mediaIndexVerdict, mediaVerdict, controlVerdict};
+use crate::Answer;
+use crate::Profile;
+use crate::Receiver;
+use crate::ReceiverAfter;
+use crate::Refusal;
+use crate::Settings;
+use replay::index::Estimate;
+use replay::index::Highest;
+use replay::index::MAX_CONTROL_PACKETS;
+use replay::index::MAX_MEDIA_INDEX;
+use replay::window::Verdict;
+use replay::window::Window;
+use rtp::SrtcpLayout;
+use rtp::SrtpLayout;
+use transforms::SessionKeys;
+
+// What some rows of the table say: none holds, or the first that does.
+enum Judged {
+    Passes,
+    Stops(Refusal),
+}
+
+// What the rows of media say: where none holds, the lengths of the header and of the opened packet, and the index.
+enum MediaVerdict {
+    Opens {
+        header_len: usize,
+        len: usize,
+        index: u64,
+    },
+    Stops(Refusal),
+}
+
+// The same of control: the length of the opened packet, whether it is enciphered, and the index.
+enum ControlVerdict {
+    Opens {
+        len: usize,
+        encrypted: bool,
+        index: u64,
+    },
+    Stops(Refusal),
+}
+
+// An H at most at the bound. What is absent has no bound.
+fn at_most(highest: Highest, bound: u64) -> bool
+    ensures { λ r. ⌜ r ≡ highestAtMost bound highest ⌝ }
+{
+    match highest {
+        Highest::Absent => true,
+        Highest::At(h) => h <= bound,
+    }
+}
+
+// OLD and REPEAT.
+fn judge_replay(window: Window, index: u64) -> Judged
+    ensures { λ r. ⌜ r ≡ judgedAs (judged (replayRows window index)) ⌝ }
+{
+    let verdict = window.verdict(index);
+    match verdict {
+        Verdict::New => Judged::Passes,
+        Verdict::Old => Judged::Stops(Refusal::Old),
+        Verdict::Repeat => Judged::Stops(Refusal::Repeat),
+    }
+}
+
+// Whether `tag` is the media tag of `n` bytes at this index.
+fn is_media_tag(keys: SessionKeys, n: usize, index: u64, authenticated: &[u8], tag: &[u8]) -> bool
+    requires { ⌜ (n ≤ 10) × (index < 2 ^ 48) × (length (now authenticated) ≤ 2048) ⌝ }
+    ensures { λ r. ⌜ r ≡ same (now (tag .entry)) (mediaTag n keys (now (authenticated .entry)) index) ⌝ }
+{
+    let whole = transforms::media_tag(keys, authenticated, index);
+    octets::same(tag, &whole[..n])
+}
+
+// Whether `tag` is the control tag.
+fn is_control_tag(keys: SessionKeys, authenticated: &[u8], tag: &[u8]) -> bool
+    requires { ⌜ length (now authenticated) ≤ 2052 ⌝ }
+    ensures { λ r. ⌜ r ≡ same (now (tag .entry)) (controlTag 10 keys (now (authenticated .entry))) ⌝ }
+{
+    let whole = transforms::control_tag(keys, authenticated);
+    let n = Profile::CONTROL_TAG_LEN;
+    octets::same(tag, &whole[..n])
+}
+
+impl Settings {
+    // STREAM, ROOM and KEY of a packet with this SSRC and MKI that would give `len` bytes.
+    fn judge_address(self, ssrc: u32, len: usize, room: usize, mki: &[u8]) -> Judged
+        requires { ⌜ self .«mki_len» ≤ 4 ⌝ }
+        ensures { λ r. ⌜ r ≡ judgedAs (judged (addressRows self ssrc len room (now (mki .entry)))) ⌝ }
+    {
+        if ssrc != self.ssrc {
+            return Judged::Stops(Refusal::Stream);
+        }
+        if room < len {
+            return Judged::Stops(Refusal::Room);
+        }
+        let own = self.mki;
+        let n = self.mki_len;
+        if !octets::same(mki, &own[..n]) {
+            return Judged::Stops(Refusal::Key);
+        }
+        Judged::Passes
+    }
+}
+
+impl Receiver {
+    // Not SETUP: the lengths that set-up lists, and the bound of each H.
+    fn listed(self) -> bool
+        ensures { λ r. ⌜ r ≡ receiverListed self ⌝ }
+    {
+        let session = self.session;
+        let settings = session.settings;
+        if !settings.listed() {
+            return false;
+        }
+        let media = self.media;
+        let highest = media.highest;
+        if !at_most(highest, MAX_MEDIA_INDEX) {
+            return false;
+        }
+        let control = self.control;
+        let highest_control = control.highest;
+        at_most(highest_control, MAX_CONTROL_PACKETS - 1)
+    }
+
+    // The rows of a media packet. What cannot be read is refused at once.
+    fn judge_media(self, packet: &[u8], room: usize) -> MediaVerdict
+        ensures { λ r. ⌜ r ≡ mediaVerdict self (now (packet .entry)) room ⌝ }
+    {
+        if !self.listed() {
+            return MediaVerdict::Stops(Refusal::Setup);
+        }
+        let session = self.session;
+        let settings = session.settings;
+        let mki_len = settings.mki_len;
+        let tag_len = settings.profile.tag_len;
+        let trailer = mki_len + tag_len;
+        if packet.len() > Profile::MAX_PACKET_LEN + trailer {
+            return MediaVerdict::Stops(Refusal::Long);
+        }
+        let SrtpLayout::Srtp {
+            header_len,
+            sequence_number,
+            ssrc,
+            mki,
+            tag,
+        } = rtp::read_srtp(packet, mki_len, tag_len)
+        else {
+            return MediaVerdict::Stops(Refusal::Shape);
+        };
+        let address = settings.judge_address(ssrc, mki, room, &packet[mki..tag]);
+        if let Judged::Stops(refusal) = address {
+            return MediaVerdict::Stops(refusal);
+        }
+        self.judge_media_index(header_len, sequence_number, &packet[..mki], &packet[tag..])
+    }
+
+    // SPENT to FORGED of a media packet with this number. `authenticated` is all of it that stands before the MKI.
+    fn judge_media_index(
+        self,
+        header_len: usize,
+        number: u16,
+        authenticated: &[u8],
+        tag: &[u8],
+    ) -> MediaVerdict
+        requires { ⌜ (length (now authenticated) ≤ 2048) × (self .session .settings .profile .«tag_len» ≤ 10) ⌝ }
+        ensures { λ r. ⌜ r ≡ mediaIndexVerdict self «header_len» number (now (authenticated .entry)) (now (tag .entry)) ⌝ }
+    {
+        let window = self.media;
+        let highest = window.highest;
+        let estimate = highest.estimate(self.rollover, number);
+        match estimate {
+            Estimate::Spent => MediaVerdict::Stops(Refusal::Spent),
+            Estimate::Old => MediaVerdict::Stops(Refusal::Old),
+            Estimate::Index(index) => self.judge_media_at(header_len, index, authenticated, tag),
+        }
+    }
+
+    // OLD, REPEAT and FORGED of a media packet at this index.
+    fn judge_media_at(
+        self,
+        header_len: usize,
+        index: u64,
+        authenticated: &[u8],
+        tag: &[u8],
+    ) -> MediaVerdict
+        requires { ⌜ (index < 2 ^ 48) × (length (now authenticated) ≤ 2048) × (self .session .settings .profile .«tag_len» ≤ 10) ⌝ }
+        ensures { λ r. ⌜ r ≡ mediaAtVerdict self «header_len» index (now (authenticated .entry)) (now (tag .entry)) ⌝ }
+    {
+        let replayed = judge_replay(self.media, index);
+        if let Judged::Stops(refusal) = replayed {
+            return MediaVerdict::Stops(refusal);
+        }
+        let session = self.session;
+        let keys = session.media;
+        let tag_len = session.settings.profile.tag_len;
+        if !is_media_tag(keys, tag_len, index, authenticated, tag) {
+            return MediaVerdict::Stops(Refusal::Forged);
+        }
+        let len = authenticated.len();
+        MediaVerdict::Opens {
+            header_len,
+            len,
+            index,
+        }
+    }
+
+    // The rows of a control packet. What cannot be read is refused at once.
+    fn judge_control(self, packet: &[u8], room: usize) -> ControlVerdict
+        ensures { λ r. ⌜ r ≡ controlVerdict self (now (packet .entry)) room ⌝ }
+    {
+        if !self.listed() {
+            return ControlVerdict::Stops(Refusal::Setup);
+        }
+        let session = self.session;
+        let settings = session.settings;
+        let mki_len = settings.mki_len;
+        let trailer = 4 + mki_len + Profile::CONTROL_TAG_LEN;
+        if packet.len() > Profile::MAX_PACKET_LEN + trailer {
+            return ControlVerdict::Stops(Refusal::Long);
+        }
+        let SrtcpLayout::Srtcp {
+            ssrc,
+            encrypted,
+            index,
+            word,
+            mki,
+            tag,
+        } = rtp::read_srtcp(packet, mki_len, Profile::CONTROL_TAG_LEN)
+        else {
+            return ControlVerdict::Stops(Refusal::Shape);
+        };
+        let address = settings.judge_address(ssrc, word, room, &packet[mki..tag]);
+        if let Judged::Stops(refusal) = address {
+            return ControlVerdict::Stops(refusal);
+        }
+        self.judge_control_at(
+            word,
+            encrypted,
+            index as u64,
+            &packet[..mki],
+            &packet[tag..],
+        )
+    }
+
+    // OLD, REPEAT and FORGED of a control packet with this index, which is `len` bytes long and `encrypted` or not.
+    fn judge_control_at(
+        self,
+        len: usize,
+        encrypted: bool,
+        index: u64,
+        authenticated: &[u8],
+        tag: &[u8],
+    ) -> ControlVerdict
+        requires { ⌜ length (now authenticated) ≤ 2052 ⌝ }
+        ensures { λ r. ⌜ r ≡ controlAtVerdict self len encrypted index (now (authenticated .entry)) (now (tag .entry)) ⌝ }
+    {
+        let replayed = judge_replay(self.control, index);
+        if let Judged::Stops(refusal) = replayed {
+            return ControlVerdict::Stops(refusal);
+        }
+        let session = self.session;
+        let keys = session.control;
+        if !is_control_tag(keys, authenticated, tag) {
+            return ControlVerdict::Stops(Refusal::Forged);
+        }
+        ControlVerdict::Opens {
+            len,
+            encrypted,
+            index,
+        }
+    }
+
+    // Opens an SRTP packet into `out` (RFC 3711, 3.3).
+    pub fn receive_media(self, packet: &[u8], out: &mut [u8]) -> ReceiverAfter
+        ensures { λ r. ⌜ ReceiverShows (receiveMedia self (now (packet .entry)) (length (now (out .entry)))) self (now (out .entry)) r (now (out .exit)) ⌝ }
+    {
+        let verdict = self.judge_media(packet, out.len());
+        match verdict {
+            MediaVerdict::Stops(refusal) => ReceiverAfter {
+                answer: Answer::Refused(refusal),
+                next: self,
+            },
+            MediaVerdict::Opens {
+                header_len,
+                len,
+                index,
+            } => {
+                let session = self.session;
+                let t = aes::sbox();
+                session.cipher_media(&t, &packet[..len], header_len, index, out);
+                let window = self.media;
+                let marked = window.mark(index);
+                let mut next = self;
+                next.media = marked;
+                ReceiverAfter {
+                    answer: Answer::Sent { len, index },
+                    next,
+                }
+            }
+        }
+    }
+
+    // Opens an SRTCP packet into `out` (RFC 3711, 3.4).
+    pub fn receive_control(self, packet: &[u8], out: &mut [u8]) -> ReceiverAfter
+        ensures { λ r. ⌜ ReceiverShows (receiveControl self (now (packet .entry)) (length (now (out .entry)))) self (now (out .entry)) r (now (out .exit)) ⌝ }
+    {
+        let verdict = self.judge_control(packet, out.len());
+        match verdict {
+            ControlVerdict::Stops(refusal) => ReceiverAfter {
+                answer: Answer::Refused(refusal),
+                next: self,
+            },
+            ControlVerdict::Opens {
+                len,
+                encrypted,
+                index,
+            } => {
+                let session = self.session;
+                let t = aes::sbox();
+                session.cipher_control(&t, encrypted, &packet[..len], index, out);
+                let window = self.control;
+                let marked = window.mark(index);
+                let mut next = self;
+                next.control = marked;
+                ReceiverAfter {
+                    answer: Answer::Sent { len, index },
+                    next,
+                }
+            }
+        }
+    }
+}

@@ -1,6 +1,7 @@
 -- The demands on runs, in 01's words: proved of every set-up, also one that is refused, and of every list of calls (`refusal-keeps`,
 -- `sender-keeps` and `receiver-keeps` in proofs/Demand1, `sender-demand2`, `receiver-demand2`, `sender-demand3`, `receiver-demand3`).
--- Assumes nothing.
+-- `Bytes (c .packet)` says that what a call reads are bytes, numbers below 256; only where a number is read from them and written again
+-- is it asked for. Assumes nothing.
 use Prim.Native.Nat.{ℕ, _≤_}
 use mathlib.Core.Path.{_≡_}
 use mathlib.Core.Bool.{true}

@@ -1,6 +1,5 @@
 // Receiving: a packet is judged whole, the tag last, before anything is written; then it is opened and its index marked.
 ghost use mathlib.Core.Path.{_≡_};
-ghost use mathlib.Core.Bool.{true};
 ghost use Prim.Native.Nat.{_≤_, _<_, _^_};
 ghost use lib.ListN.{length};
 ghost use Rattle.octets.specs.Equal.{same};
@@ -52,7 +51,9 @@ enum ControlVerdict {
     Stops(Refusal),
 }
 
-// An H at most at the bound. What is absent has no bound.
+// ---- the rows
+
+// An H within the bound. What is absent has none.
 fn at_most(highest: Highest, bound: u64) -> bool
     ensures { λ r. ⌜ r ≡ highestAtMost bound highest ⌝ }
 {
@@ -134,7 +135,7 @@ impl Receiver {
         at_most(highest_control, MAX_CONTROL_PACKETS - 1)
     }
 
-    // The rows of a media packet. What cannot be read is refused at once.
+    // All rows of a media packet. Where the header can't be read, nothing after it is tried.
     fn judge_media(self, packet: &[u8], room: usize) -> MediaVerdict
         ensures { λ r. ⌜ r ≡ mediaVerdict self (now (packet .entry)) room ⌝ }
     {
@@ -166,7 +167,7 @@ impl Receiver {
         self.judge_media_index(header_len, sequence_number, &packet[..mki], &packet[tag..])
     }
 
-    // SPENT to FORGED of a media packet with this number. `authenticated` is all of it that stands before the MKI.
+    // SPENT to FORGED of a media packet with this number. `authenticated` is what stands before the MKI.
     fn judge_media_index(
         self,
         header_len: usize,
@@ -216,7 +217,7 @@ impl Receiver {
         }
     }
 
-    // The rows of a control packet. What cannot be read is refused at once.
+    // All rows of a control packet.
     fn judge_control(self, packet: &[u8], room: usize) -> ControlVerdict
         ensures { λ r. ⌜ r ≡ controlVerdict self (now (packet .entry)) room ⌝ }
     {
@@ -226,6 +227,7 @@ impl Receiver {
         let session = self.session;
         let settings = session.settings;
         let mki_len = settings.mki_len;
+        // The index word has 4 bytes.
         let trailer = 4 + mki_len + Profile::CONTROL_TAG_LEN;
         if packet.len() > Profile::MAX_PACKET_LEN + trailer {
             return ControlVerdict::Stops(Refusal::Long);
@@ -254,7 +256,7 @@ impl Receiver {
         )
     }
 
-    // OLD, REPEAT and FORGED of a control packet with this index, which is `len` bytes long and `encrypted` or not.
+    // OLD, REPEAT and FORGED of a control packet at this index. `len` and `encrypted` go into the verdict.
     fn judge_control_at(
         self,
         len: usize,
@@ -281,8 +283,12 @@ impl Receiver {
             index,
         }
     }
+}
 
-    // Opens an SRTP packet into `out` (RFC 3711, 3.3).
+// ---- the calls
+
+impl Receiver {
+    // Opens an SRTP packet into `out` (RFC 3711, 3.3). The window is marked only where the tag is right.
     pub fn receive_media(self, packet: &[u8], out: &mut [u8]) -> ReceiverAfter
         ensures { λ r. ⌜ ReceiverShows (receiveMedia self (now (packet .entry)) (length (now (out .entry)))) self (now (out .entry)) r (now (out .exit)) ⌝ }
     {

@@ -1,5 +1,6 @@
 -- `Receiver::judge_media_index` meets its contract: each way out by its law. Assumes nothing.
 use borrow.Author.Needs.{needs}
+use denote.Ref.{now}
 use Rattle.srtp.proofs.ReceiveMediaRows.{media-spent, media-below, in-bound, media-placed}
 use Rattle.srtp.proofs.Receiver.judge_media_index.Statement.{statement}
 use Rattle.srtp.proofs.Receiver.judge_media_index.Tie as tie
@@ -17,16 +18,16 @@ enum-known-estimate : tie.Need-enum-known-estimate
 enum-known-estimate c = search needs
 
 judge-media-at-requires : tie.Need-judge-media-at-requires
-judge-media-at-requires c κs = (search in-bound, search needs, search needs)
+judge-media-at-requires c κs = (let s = c .before .before .before .before .before .before .before in in-bound (s .args .self) (s .args .header-len) (s .args .number) (now (s .args .authenticated)) (now (s .args .tag)) (c .before .before .before .estimate .ensures) _ (c .before .estimate2 .given .1), search needs, search needs)
 
 returns : tie.Need-returns
-returns c = search media-spent
+returns c = let s = c .before .before .before .before .before .before in media-spent (s .args .self) (s .args .header-len) (s .args .number) (now (s .args .authenticated)) (now (s .args .tag)) (c .before .before .estimate .ensures) (c .enum-told .given .1)
 
 returns-2 : tie.Need-returns-2
-returns-2 c = search media-below
+returns-2 c = let s = c .before .before .before .before .before .before in media-below (s .args .self) (s .args .header-len) (s .args .number) (now (s .args .authenticated)) (now (s .args .tag)) (c .before .before .estimate .ensures) (c .enum-told2 .given .1)
 
 returns-3 : tie.Need-returns-3
-returns-3 c = search media-placed
+returns-3 c = let s = c .before .before .before .before .before .before .before .before in media-placed (s .args .self) (s .args .header-len) (s .args .number) (now (s .args .authenticated)) (now (s .args .tag)) (c .before .before .before .before .estimate .ensures) _ (c .before .before .estimate2 .given .1) (c .judge-media-at .ensures)
 
 pub judge-media-index-spec : {M : Type 1} → statement M
 judge-media-index-spec =

@@ -1,0 +1,16 @@
+use borrow.Author.Needs.{needs}
+use Rattle.srtp_c.proofs.Returns.{keys-of}
+use Rattle.srtp_c.proofs.Keys.to_core.Statement.{statement}
+use Rattle.srtp_c.proofs.Keys.to_core.Tie as tie
+
+to-core-requires : tie.Need-to-core-requires
+to-core-requires c κs = search needs
+
+to-core-requires-2 : tie.Need-to-core-requires-2
+to-core-requires-2 c κs = search needs
+
+returns : tie.Need-returns
+returns c = search keys-of
+
+pub to-core-spec : {M : Type 1} → statement M
+to-core-spec = tie.close (tie.spec to-core-requires to-core-requires-2 returns)

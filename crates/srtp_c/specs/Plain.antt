@@ -1,0 +1,139 @@
+-- What a plain struct of the boundary stands for, and the plain form of a value of `srtp`. A number that no enum has makes a context the
+-- closed one. Assumes nothing.
+use Prim.Native.Nat.{ℕ}
+use mathlib.Core.Bool.{Bool, cond, _&&_}
+use lib.Dec.{eqb, leb}
+use Rattle.sha1.specs.declared.State.{State}
+use Rattle.replay.specs.declared.index.LastSent.{LastSent}
+use Rattle.replay.specs.declared.index.LastSent.the-variants as last
+use Rattle.replay.specs.declared.index.Highest.{Highest}
+use Rattle.replay.specs.declared.index.Highest.the-variants as highest
+use Rattle.replay.specs.declared.window.Window as core-window
+use Rattle.transforms.specs.declared.SessionKeys.{SessionKeys}
+use Rattle.transforms.specs.declared.Cipher.{Cipher}
+use Rattle.transforms.specs.declared.Cipher.the-variants.{Aes, Null}
+use Rattle.srtp.specs.declared.Session as core-session
+use Rattle.srtp.specs.declared.Sender as core-sender
+use Rattle.srtp.specs.declared.Receiver as core-receiver
+use Rattle.srtp.specs.Contexts.{closedSender, closedReceiver}
+use Rattle.srtp_c.specs.declared.HashState.{HashState}
+use Rattle.srtp_c.specs.declared.Keys.{Keys}
+use Rattle.srtp_c.specs.declared.Session.{Session}
+use Rattle.srtp_c.specs.declared.Sender.{Sender}
+use Rattle.srtp_c.specs.declared.Window.{Window}
+use Rattle.srtp_c.specs.declared.Receiver.{Receiver}
+
+-- ---- enums of two cases: 0 and 1
+abbrev pub twoCased : ℕ → Bool
+twoCased n = leb n 1
+
+abbrev pub cipherOf : ℕ → Cipher
+cipherOf n = cond (eqb n 1) Aes Null
+
+abbrev pub cipherNumber : Cipher → ℕ
+cipherNumber Null = 0
+cipherNumber Aes = 1
+
+abbrev pub lastOf : (has index : ℕ) → LastSent
+lastOf has i = cond (eqb has 1) (last.At i) last.Nothing
+
+abbrev pub hasLast : LastSent → ℕ
+hasLast last.Nothing = 0
+hasLast (last.At i) = 1
+
+abbrev pub lastIndex : LastSent → ℕ
+lastIndex last.Nothing = 0
+lastIndex (last.At i) = i
+
+abbrev pub highestOf : (has index : ℕ) → Highest
+highestOf has i = cond (eqb has 1) (highest.At i) highest.Absent
+
+abbrev pub hasHighest : Highest → ℕ
+hasHighest highest.Absent = 0
+hasHighest (highest.At i) = 1
+
+abbrev pub highestIndex : Highest → ℕ
+highestIndex highest.Absent = 0
+highestIndex (highest.At i) = i
+
+-- ---- keys and sessions
+abbrev pub stateOf : HashState → State
+stateOf s = record { a = s .a; b = s .b; c = s .c; d = s .d; e = s .e }
+
+abbrev pub plainState : State → HashState
+plainState s = record { a = s .a; b = s .b; c = s .c; d = s .d; e = s .e }
+
+abbrev pub keysOf : Keys → SessionKeys
+keysOf k = record { round = k .round; tag = record { inner = stateOf (k .inner); outer = stateOf (k .outer) }; salt = k .salt }
+
+abbrev pub plainKeys : SessionKeys → Keys
+plainKeys k = record { round = k .round; inner = plainState (k .tag .inner); outer = plainState (k .tag .outer); salt = k .salt }
+
+abbrev pub sessionOf : Session → core-session.Session
+sessionOf s =
+    record {
+      settings =
+          record {
+            profile = record { cipher = cipherOf (s .cipher); «tag_len» = s .«tag_len» };
+            ssrc = s .ssrc;
+            mki = s .mki;
+            «mki_len» = s .«mki_len»;
+          };
+      media = keysOf (s .media);
+      control = keysOf (s .control);
+    }
+
+abbrev pub plainSession : core-session.Session → Session
+plainSession s =
+    record {
+      cipher = cipherNumber (s .settings .profile .cipher);
+      ssrc = s .settings .ssrc;
+      «tag_len» = s .settings .profile .«tag_len»;
+      «mki_len» = s .settings .«mki_len»;
+      mki = s .settings .mki;
+      media = plainKeys (s .media);
+      control = plainKeys (s .control);
+    }
+
+-- ---- senders. A struct is a context where each number of an enum has a case, and else stands for the closed one.
+abbrev pub senderNamed : Sender → Bool
+senderNamed c = twoCased (c .session .cipher) && twoCased (c .«has_last»)
+
+unfoldable pub senderOf : Sender → core-sender.Sender
+senderOf c =
+    cond (senderNamed c)
+    (record {
+      session = sessionOf (c .session);
+      media = record { last = lastOf (c .«has_last») (c .«last_index») };
+      control = record { sent = c .«control_sent» };
+    })
+    closedSender
+
+unfoldable pub plainSender : core-sender.Sender → Sender
+plainSender c =
+    record {
+      session = plainSession (c .session);
+      «has_last» = hasLast (c .media .last);
+      «last_index» = lastIndex (c .media .last);
+      «control_sent» = c .control .sent;
+    }
+
+-- ---- receivers
+abbrev pub windowOf : Window → core-window.Window
+windowOf w = record { highest = highestOf (w .«has_highest») (w .highest); bits = w .bits }
+
+abbrev pub plainWindow : core-window.Window → Window
+plainWindow w = record { «has_highest» = hasHighest (w .highest); highest = highestIndex (w .highest); bits = w .bits }
+
+abbrev pub receiverNamed : Receiver → Bool
+receiverNamed c = twoCased (c .session .cipher) && (twoCased (c .media .«has_highest») && twoCased (c .control .«has_highest»))
+
+unfoldable pub receiverOf : Receiver → core-receiver.Receiver
+receiverOf c =
+    cond (receiverNamed c)
+    (record { session = sessionOf (c .session); rollover = c .rollover; media = windowOf (c .media); control = windowOf (c .control) })
+    closedReceiver
+
+unfoldable pub plainReceiver : core-receiver.Receiver → Receiver
+plainReceiver c =
+    record { session = plainSession (c .session); rollover = c .rollover; media = plainWindow (c .media); control = plainWindow (c .control) }

@@ -1,0 +1,92 @@
+// The boundary to C and Rust: contexts as plain structs that the caller keeps and lends, and an exported function for each call of `srtp`.
+// Neither enum nor bool crosses it, so every content of a struct is a value; what a struct stands for is said in specs/Plain.antt.
+mod calls;
+mod exports;
+mod plain;
+
+// The five words of a SHA-1 state.
+#[repr(C)]
+pub struct HashState {
+    pub a: u32,
+    pub b: u32,
+    pub c: u32,
+    pub d: u32,
+    pub e: u32,
+}
+
+// The session keys of media or of control: the round keys, HMAC's key as two states, the salt.
+#[repr(C)]
+pub struct Keys {
+    pub round: [u32; 44],
+    pub inner: HashState,
+    pub outer: HashState,
+    pub salt: [u8; 14],
+}
+
+// What packets are protected under. `cipher` is 0 for NULL and 1 for AES; the MKI is the first `mki_len` bytes of `mki`.
+#[repr(C)]
+pub struct Session {
+    pub cipher: u32,
+    pub ssrc: u32,
+    pub tag_len: usize,
+    pub mki_len: usize,
+    pub mki: [u8; 4],
+    pub media: Keys,
+    pub control: Keys,
+}
+
+// `last_index` is the media index used last if `has_last` is 1; with 0 no media packet was sent.
+#[repr(C)]
+pub struct Sender {
+    pub session: Session,
+    pub has_last: u32,
+    pub last_index: u64,
+    pub control_sent: u64,
+}
+
+// A replay window: `highest` is the highest index if `has_highest` is 1; with 0 there is none.
+#[repr(C)]
+pub struct Window {
+    pub has_highest: u32,
+    pub highest: u64,
+    pub bits: u64,
+}
+
+#[repr(C)]
+pub struct Receiver {
+    pub session: Session,
+    pub rollover: u32,
+    pub media: Window,
+    pub control: Window,
+}
+
+// What a call answers: 0 with the length and the index of the finished packet, or the number of a refusal with zeros.
+#[repr(C)]
+pub struct Answer {
+    pub number: u32,
+    pub len: usize,
+    pub index: u64,
+}
+
+// What set-up answers: 0 and the context, or SETUP's number and the closed context.
+#[repr(C)]
+pub struct SenderSetUp {
+    pub number: u32,
+    pub context: Sender,
+}
+
+#[repr(C)]
+pub struct ReceiverSetUp {
+    pub number: u32,
+    pub context: Receiver,
+}
+
+pub struct SenderAfter {
+    pub answer: Answer,
+    pub next: Sender,
+}
+
+pub struct ReceiverAfter {
+    pub answer: Answer,
+    pub next: Receiver,
+}

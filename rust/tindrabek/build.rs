@@ -5,7 +5,10 @@ use std::path::PathBuf;
 fn main() {
     let dir = match env::var_os("TINDRABEK_LIB_DIR") {
         Some(dir) => PathBuf::from(dir),
-        None => PathBuf::from(env::var_os("CARGO_MANIFEST_DIR").expect("cargo names the crate's folder")).join("../../target/staticlib"),
+        None => PathBuf::from(
+            env::var_os("CARGO_MANIFEST_DIR").expect("cargo names the crate's folder"),
+        )
+        .join("../../target/staticlib"),
     };
     let library = dir.join("libsrtp_c.a");
     println!("cargo:rerun-if-env-changed=TINDRABEK_LIB_DIR");

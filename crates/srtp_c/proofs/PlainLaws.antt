@@ -1,6 +1,10 @@
--- A context of `srtp` is what its plain form stands for. Assumes nothing.
-use mathlib.Core.Bool.{true}
-use mathlib.Core.Path.{_≡_, refl}
+-- A context of `srtp` is what its plain form stands for; what a struct with an unknown number and what a struct of zeros stands for.
+-- Assumes nothing.
+use Prim.Native.Nat.{ℕ}
+use mathlib.Core.Bool.{true, false}
+use mathlib.Core.List.{List}
+use mathlib.Core.Path.{_≡_, refl, ap}
+use lib.ListN.{replicate}
 use Rattle.replay.specs.declared.index.LastSent.{LastSent}
 use Rattle.replay.specs.declared.index.LastSent.the-variants as last
 use Rattle.replay.specs.declared.index.Highest.{Highest}
@@ -9,8 +13,18 @@ use Rattle.transforms.specs.declared.Cipher.{Cipher}
 use Rattle.transforms.specs.declared.Cipher.the-variants.{Aes, Null}
 use Rattle.srtp.specs.declared.Sender.{Sender}
 use Rattle.srtp.specs.declared.Receiver.{Receiver}
+use Rattle.srtp.specs.declared.Refusal.the-variants.{Setup}
+use Rattle.srtp.specs.Contexts.{closedSender, closedReceiver, senderListed, receiverListed}
+use Rattle.srtp.specs.Outcomes.{refused}
+use Rattle.srtp.specs.Calls.{sendMedia, sendControl, receiveMedia, receiveControl}
+use Rattle.srtp_c.specs.declared.HashState.{HashState}
+use Rattle.srtp_c.specs.declared.Keys.{Keys}
+use Rattle.srtp_c.specs.declared.Session.{Session}
+use Rattle.srtp_c.specs.declared.Window.{Window}
+use Rattle.srtp_c.specs.declared.Sender as plain-sender
+use Rattle.srtp_c.specs.declared.Receiver as plain-receiver
 use Rattle.srtp_c.specs.Plain.{twoCased, cipherOf, cipherNumber, lastOf, hasLast, lastIndex, highestOf, hasHighest, highestIndex}
-use Rattle.srtp_c.specs.Plain.{senderOf, plainSender, receiverOf, plainReceiver}
+use Rattle.srtp_c.specs.Plain.{senderNamed, senderOf, plainSender, receiverNamed, receiverOf, plainReceiver}
 
 -- ---- enums
 cipher-named : (x : Cipher) → twoCased (cipherNumber x) ≡ true
@@ -52,3 +66,52 @@ receiver-back c =
     let m = c .media .highest in
     let n = c .control .highest in
     rw (cipher-named x, highest-named m, highest-named n, cipher-back x, highest-back m, highest-back n)
+
+-- ---- a number that no enum has: every call is refused as SETUP
+module _ (packet : List ℕ) (room : ℕ) where
+  module _ (c : plain-sender.Sender) (e : senderNamed c ≡ false) where
+    closed-sender : senderOf c ≡ closedSender
+    unfolding senderOf
+    closed-sender = rw e
+
+    pub unnamed-send-media : sendMedia (senderOf c) packet room ≡ refused Setup
+    unfolding sendMedia closedSender senderListed
+    unnamed-send-media = ap (λ (s : Sender). sendMedia s packet room) closed-sender
+
+    pub unnamed-send-control : sendControl (senderOf c) packet room ≡ refused Setup
+    unfolding sendControl closedSender senderListed
+    unnamed-send-control = ap (λ (s : Sender). sendControl s packet room) closed-sender
+
+  module _ (c : plain-receiver.Receiver) (e : receiverNamed c ≡ false) where
+    closed-receiver : receiverOf c ≡ closedReceiver
+    unfolding receiverOf
+    closed-receiver = rw e
+
+    pub unnamed-receive-media : receiveMedia (receiverOf c) packet room ≡ refused Setup
+    unfolding receiveMedia closedReceiver receiverListed
+    unnamed-receive-media = ap (λ (s : Receiver). receiveMedia s packet room) closed-receiver
+
+    pub unnamed-receive-control : receiveControl (receiverOf c) packet room ≡ refused Setup
+    unfolding receiveControl closedReceiver receiverListed
+    unnamed-receive-control = ap (λ (s : Receiver). receiveControl s packet room) closed-receiver
+
+-- ---- the closed context is all zeros
+abbrev zeroState : HashState
+zeroState = record { a = 0; b = 0; c = 0; d = 0; e = 0 }
+
+abbrev zeroKeys : Keys
+zeroKeys = record { round = replicate 44 0; inner = zeroState; outer = zeroState; salt = replicate 14 0 }
+
+abbrev zeroSession : Session
+zeroSession = record { cipher = 0; ssrc = 0; «tag_len» = 0; «mki_len» = 0; mki = replicate 4 0; media = zeroKeys; control = zeroKeys }
+
+abbrev zeroWindow : Window
+zeroWindow = record { «has_highest» = 0; highest = 0; bits = 0 }
+
+pub sender-zeros : plainSender closedSender ≡ record { session = zeroSession; «has_last» = 0; «last_index» = 0; «control_sent» = 0 }
+unfolding plainSender closedSender
+sender-zeros = refl
+
+pub receiver-zeros : plainReceiver closedReceiver ≡ record { session = zeroSession; rollover = 0; media = zeroWindow; control = zeroWindow }
+unfolding plainReceiver closedReceiver
+receiver-zeros = refl

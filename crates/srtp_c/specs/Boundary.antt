@@ -16,7 +16,6 @@ use Rattle.srtp.specs.declared.SetUpAnswer.the-variants as setup
 use Rattle.srtp.specs.declared.SenderSetUp as core-sender-set-up
 use Rattle.srtp.specs.declared.ReceiverSetUp as core-receiver-set-up
 use Rattle.srtp.specs.Refusals.{numberOf}
-use Rattle.srtp.specs.SetUps.{SetUp}
 use Rattle.srtp.specs.Contexts.{closedSender, closedReceiver, setUpSender, setUpReceiver}
 use Rattle.srtp.specs.Outcomes.{Outcome, refused, done, answerOf, bufferOf, shown}
 use Rattle.srtp.specs.Calls.{sendMedia, sendControl, receiveMedia, receiveControl}

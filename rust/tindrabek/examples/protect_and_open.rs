@@ -23,7 +23,12 @@ fn rtcp(text: &str) -> Vec<u8> {
 fn protect(what: &str, plain: &[u8], answer: Result<Packet, Refusal>, out: &[u8]) -> Vec<u8> {
     match answer {
         Ok(packet) => {
-            println!("sender:   {what}: {} bytes protected to {}, index {}", plain.len(), packet.len, packet.index);
+            println!(
+                "sender:   {what}: {} bytes protected to {}, index {}",
+                plain.len(),
+                packet.len,
+                packet.index
+            );
             out[..packet.len].to_vec()
         }
         Err(refusal) => {
@@ -47,12 +52,14 @@ fn open(what: &str, clear: usize, answer: Result<Packet, Refusal>, out: &[u8]) {
 
 fn main() -> Result<(), Refusal> {
     let (key, salt) = ([0x2a; 16], [0x17; 14]);
-    let set_up = SetUp { ssrc: SSRC, key: &key, salt: &salt, mki: &[1], tag_len: 10, cipher: Cipher::Aes };
+    let set_up =
+        SetUp { ssrc: SSRC, key: &key, salt: &salt, mki: &[1], tag_len: 10, cipher: Cipher::Aes };
     let mut sender = Sender::set_up(&set_up)?;
     let mut receiver = Receiver::set_up(&set_up, 0, None)?;
     let mut out = [0; MAX_RESULT_LEN];
 
-    let plain = [rtp(65_534, "lot 41, two bids"), rtp(65_535, "lot 41, sold"), rtp(0, "lot 42, one bid")];
+    let plain =
+        [rtp(65_534, "lot 41, two bids"), rtp(65_535, "lot 41, sold"), rtp(0, "lot 42, one bid")];
     let report = rtcp("all is well.");
     let mut sent = Vec::new();
     for (packet, number) in plain.iter().zip([65_534, 65_535, 0]) {
@@ -66,9 +73,13 @@ fn main() -> Result<(), Refusal> {
 
     let mut damaged = sent[0].clone();
     damaged[20] ^= 4;
-    for (what, packet) in
-        [("media 65534, damaged", &damaged), ("media 65534", &sent[0]), ("media 0", &sent[2]), ("media 65535, late", &sent[1]), ("media 0 again", &sent[2])]
-    {
+    for (what, packet) in [
+        ("media 65534, damaged", &damaged),
+        ("media 65534", &sent[0]),
+        ("media 0", &sent[2]),
+        ("media 65535, late", &sent[1]),
+        ("media 0 again", &sent[2]),
+    ] {
         let answer = receiver.receive_media(packet, &mut out);
         open(what, 12, answer, &out);
     }

@@ -76,15 +76,37 @@ pub struct ReceiverSetUp {
 
 const _: () = {
     assert!(size_of::<HashState>() == 20);
-    assert!(offset_of!(Keys, inner) == 176 && offset_of!(Keys, outer) == 196 && offset_of!(Keys, salt) == 216 && size_of::<Keys>() == 232);
-    assert!(offset_of!(Session, ssrc) == 4 && offset_of!(Session, tag_len) == 8 && offset_of!(Session, mki_len) == 16);
-    assert!(offset_of!(Session, mki) == 24 && offset_of!(Session, media) == 28 && offset_of!(Session, control) == 260 && size_of::<Session>() == 496);
+    assert!(
+        offset_of!(Keys, inner) == 176
+            && offset_of!(Keys, outer) == 196
+            && offset_of!(Keys, salt) == 216
+            && size_of::<Keys>() == 232
+    );
+    assert!(
+        offset_of!(Session, ssrc) == 4
+            && offset_of!(Session, tag_len) == 8
+            && offset_of!(Session, mki_len) == 16
+    );
+    assert!(
+        offset_of!(Session, mki) == 24
+            && offset_of!(Session, media) == 28
+            && offset_of!(Session, control) == 260
+            && size_of::<Session>() == 496
+    );
     assert!(offset_of!(Sender, has_last) == 496 && offset_of!(Sender, last_index) == 504);
     assert!(offset_of!(Sender, control_sent) == 512 && size_of::<Sender>() == 520);
-    assert!(offset_of!(Window, highest) == 8 && offset_of!(Window, bits) == 16 && size_of::<Window>() == 24);
+    assert!(
+        offset_of!(Window, highest) == 8
+            && offset_of!(Window, bits) == 16
+            && size_of::<Window>() == 24
+    );
     assert!(offset_of!(Receiver, rollover) == 496 && offset_of!(Receiver, media) == 504);
     assert!(offset_of!(Receiver, control) == 528 && size_of::<Receiver>() == 552);
-    assert!(offset_of!(Answer, len) == 8 && offset_of!(Answer, index) == 16 && size_of::<Answer>() == 24);
+    assert!(
+        offset_of!(Answer, len) == 8
+            && offset_of!(Answer, index) == 16
+            && size_of::<Answer>() == 24
+    );
     assert!(offset_of!(SenderSetUp, context) == 8 && size_of::<SenderSetUp>() == 528);
     assert!(offset_of!(ReceiverSetUp, context) == 8 && size_of::<ReceiverSetUp>() == 560);
 };
@@ -117,8 +139,32 @@ extern "C" {
     ) -> ReceiverSetUp;
     pub fn tindrabek_sender_closed() -> Sender;
     pub fn tindrabek_receiver_closed() -> Receiver;
-    pub fn tindrabek_send_media(ctx: *mut Sender, packet: *const u8, packet_len: usize, out: *mut u8, out_len: usize) -> Answer;
-    pub fn tindrabek_send_control(ctx: *mut Sender, packet: *const u8, packet_len: usize, out: *mut u8, out_len: usize) -> Answer;
-    pub fn tindrabek_receive_media(ctx: *mut Receiver, packet: *const u8, packet_len: usize, out: *mut u8, out_len: usize) -> Answer;
-    pub fn tindrabek_receive_control(ctx: *mut Receiver, packet: *const u8, packet_len: usize, out: *mut u8, out_len: usize) -> Answer;
+    pub fn tindrabek_send_media(
+        ctx: *mut Sender,
+        packet: *const u8,
+        packet_len: usize,
+        out: *mut u8,
+        out_len: usize,
+    ) -> Answer;
+    pub fn tindrabek_send_control(
+        ctx: *mut Sender,
+        packet: *const u8,
+        packet_len: usize,
+        out: *mut u8,
+        out_len: usize,
+    ) -> Answer;
+    pub fn tindrabek_receive_media(
+        ctx: *mut Receiver,
+        packet: *const u8,
+        packet_len: usize,
+        out: *mut u8,
+        out_len: usize,
+    ) -> Answer;
+    pub fn tindrabek_receive_control(
+        ctx: *mut Receiver,
+        packet: *const u8,
+        packet_len: usize,
+        out: *mut u8,
+        out_len: usize,
+    ) -> Answer;
 }

@@ -1,8 +1,9 @@
 //! What only a caller of the boundary itself can do: contexts whose values no set-up gives, numbers that no enum has, null pointers, and
 //! that a refused call leaves every field as it was.
 use crate::boundary::{
-    tindrabek_receive_control, tindrabek_receive_media, tindrabek_receiver_set_up, tindrabek_send_control, tindrabek_send_media,
-    tindrabek_sender_set_up, Receiver as PlainReceiver, Sender as PlainSender,
+    tindrabek_receive_control, tindrabek_receive_media, tindrabek_receiver_set_up,
+    tindrabek_send_control, tindrabek_send_media, tindrabek_sender_set_up,
+    Receiver as PlainReceiver, Sender as PlainSender,
 };
 use crate::{Cipher, Receiver, Refusal, Sender, SetUp};
 
@@ -95,8 +96,16 @@ fn contexts_that_no_set_up_gives_are_refused_and_left_alone() {
         change(&mut r.0);
         let was = r.0;
         let mut out = [0xa5; 100];
-        assert_eq!(r.receive_media(&protected[..sent.len], &mut out), Err(Refusal::Setup), "receiver {at}");
-        assert_eq!(r.receive_control(&protected[..sent.len], &mut out), Err(Refusal::Setup), "receiver {at}");
+        assert_eq!(
+            r.receive_media(&protected[..sent.len], &mut out),
+            Err(Refusal::Setup),
+            "receiver {at}"
+        );
+        assert_eq!(
+            r.receive_control(&protected[..sent.len], &mut out),
+            Err(Refusal::Setup),
+            "receiver {at}"
+        );
         assert!(r.0 == was && out == [0xa5; 100], "receiver {at}");
     }
 }
@@ -118,20 +127,56 @@ fn a_void_field_is_not_looked_at() {
 fn unknown_numbers_at_set_up() {
     // SAFETY: each pointer goes with the length of its array.
     let made = |cipher, known| unsafe {
-        let s = tindrabek_sender_set_up(SSRC, KEY.as_ptr(), 16, SALT.as_ptr(), 14, core::ptr::null(), 0, 10, cipher);
-        let r = tindrabek_receiver_set_up(SSRC, KEY.as_ptr(), 16, SALT.as_ptr(), 14, core::ptr::null(), 0, 10, cipher, 3, known, 4);
+        let s = tindrabek_sender_set_up(
+            SSRC,
+            KEY.as_ptr(),
+            16,
+            SALT.as_ptr(),
+            14,
+            core::ptr::null(),
+            0,
+            10,
+            cipher,
+        );
+        let r = tindrabek_receiver_set_up(
+            SSRC,
+            KEY.as_ptr(),
+            16,
+            SALT.as_ptr(),
+            14,
+            core::ptr::null(),
+            0,
+            10,
+            cipher,
+            3,
+            known,
+            4,
+        );
         (s, r)
     };
-    for (cipher, known, sends, receives) in [(0, 0, 0, 0), (1, 1, 0, 0), (2, 0, 1, 1), (u32::MAX, 1, 1, 1), (1, 2, 0, 1), (0, u32::MAX, 0, 1)] {
+    for (cipher, known, sends, receives) in [
+        (0, 0, 0, 0),
+        (1, 1, 0, 0),
+        (2, 0, 1, 1),
+        (u32::MAX, 1, 1, 1),
+        (1, 2, 0, 1),
+        (0, u32::MAX, 0, 1),
+    ] {
         let (s, r) = made(cipher, known);
         assert_eq!((s.number, r.number), (sends, receives), "cipher {cipher}, known {known}");
         assert_eq!(s.number != 0, s.context == Sender::closed().0);
         assert_eq!(r.number != 0, r.context == Receiver::closed().0);
     }
     let (_, r) = made(1, 1);
-    assert_eq!((r.context.rollover, r.context.media.has_highest, r.context.media.highest), (3, 1, 3 * 65536 + 4));
+    assert_eq!(
+        (r.context.rollover, r.context.media.has_highest, r.context.media.highest),
+        (3, 1, 3 * 65536 + 4)
+    );
     let (_, r) = made(1, 0);
-    assert_eq!((r.context.rollover, r.context.media.has_highest, r.context.media.highest), (3, 0, 0));
+    assert_eq!(
+        (r.context.rollover, r.context.media.has_highest, r.context.media.highest),
+        (3, 0, 0)
+    );
 }
 
 #[test]
@@ -144,6 +189,9 @@ fn no_bytes_at_a_null_pointer() {
         assert_eq!(tindrabek_send_media(&mut s.0, none, 0, core::ptr::null_mut(), 0).number, 3);
         assert_eq!(tindrabek_send_control(&mut s.0, none, 0, core::ptr::null_mut(), 0).number, 3);
         assert_eq!(tindrabek_receive_media(&mut r.0, none, 0, core::ptr::null_mut(), 0).number, 3);
-        assert_eq!(tindrabek_receive_control(&mut r.0, none, 0, core::ptr::null_mut(), 0).number, 3);
+        assert_eq!(
+            tindrabek_receive_control(&mut r.0, none, 0, core::ptr::null_mut(), 0).number,
+            3
+        );
     }
 }

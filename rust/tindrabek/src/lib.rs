@@ -96,7 +96,10 @@ impl Refusal {
 
     /// Its name, as C has it.
     pub fn name(self) -> &'static str {
-        ["SETUP", "LONG", "SHAPE", "STREAM", "ROOM", "KEY", "ORDER", "SPENT", "OLD", "REPEAT", "FORGED"][self as usize]
+        [
+            "SETUP", "LONG", "SHAPE", "STREAM", "ROOM", "KEY", "ORDER", "SPENT", "OLD", "REPEAT",
+            "FORGED",
+        ][self as usize]
     }
 }
 
@@ -210,13 +213,29 @@ impl Sender {
     /// Protects an RTP packet into `out`, which needs the packet's length and that of MKI and tag.
     pub fn send_media(&mut self, packet: &[u8], out: &mut [u8]) -> Result<Packet, Refusal> {
         // SAFETY: the context is ours alone, each pointer goes with the length of its slice, and `&mut` keeps them apart.
-        packet_of(unsafe { boundary::tindrabek_send_media(&mut self.0, packet.as_ptr(), packet.len(), out.as_mut_ptr(), out.len()) })
+        packet_of(unsafe {
+            boundary::tindrabek_send_media(
+                &mut self.0,
+                packet.as_ptr(),
+                packet.len(),
+                out.as_mut_ptr(),
+                out.len(),
+            )
+        })
     }
 
     /// Protects an RTCP packet into `out`, which needs the packet's length, 14 bytes and the length of the MKI.
     pub fn send_control(&mut self, packet: &[u8], out: &mut [u8]) -> Result<Packet, Refusal> {
         // SAFETY: as in `send_media`.
-        packet_of(unsafe { boundary::tindrabek_send_control(&mut self.0, packet.as_ptr(), packet.len(), out.as_mut_ptr(), out.len()) })
+        packet_of(unsafe {
+            boundary::tindrabek_send_control(
+                &mut self.0,
+                packet.as_ptr(),
+                packet.len(),
+                out.as_mut_ptr(),
+                out.len(),
+            )
+        })
     }
 }
 
@@ -255,13 +274,29 @@ impl Receiver {
     /// Opens an SRTP packet into `out`, which needs the length of the plain packet.
     pub fn receive_media(&mut self, packet: &[u8], out: &mut [u8]) -> Result<Packet, Refusal> {
         // SAFETY: as in `Sender::send_media`.
-        packet_of(unsafe { boundary::tindrabek_receive_media(&mut self.0, packet.as_ptr(), packet.len(), out.as_mut_ptr(), out.len()) })
+        packet_of(unsafe {
+            boundary::tindrabek_receive_media(
+                &mut self.0,
+                packet.as_ptr(),
+                packet.len(),
+                out.as_mut_ptr(),
+                out.len(),
+            )
+        })
     }
 
     /// Opens an SRTCP packet into `out`, which needs the length of the plain packet.
     pub fn receive_control(&mut self, packet: &[u8], out: &mut [u8]) -> Result<Packet, Refusal> {
         // SAFETY: as in `Sender::send_media`.
-        packet_of(unsafe { boundary::tindrabek_receive_control(&mut self.0, packet.as_ptr(), packet.len(), out.as_mut_ptr(), out.len()) })
+        packet_of(unsafe {
+            boundary::tindrabek_receive_control(
+                &mut self.0,
+                packet.as_ptr(),
+                packet.len(),
+                out.as_mut_ptr(),
+                out.len(),
+            )
+        })
     }
 }
 

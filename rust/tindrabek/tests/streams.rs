@@ -2,8 +2,11 @@
 use tindrabek::{Cipher, Packet, Receiver, Refusal, Sender, SetUp, MAX_PACKET_LEN, MAX_RESULT_LEN};
 
 // The master key and master salt of RFC 3711, B.3.
-const KEY: [u8; 16] = [0xe1, 0xf9, 0x7a, 0x0d, 0x3e, 0x01, 0x8b, 0xe0, 0xd6, 0x4f, 0xa3, 0x2c, 0x06, 0xde, 0x41, 0x39];
-const SALT: [u8; 14] = [0x0e, 0xc6, 0x75, 0xad, 0x49, 0x8a, 0xfe, 0xeb, 0xb6, 0x96, 0x0b, 0x3a, 0xab, 0xe6];
+const KEY: [u8; 16] = [
+    0xe1, 0xf9, 0x7a, 0x0d, 0x3e, 0x01, 0x8b, 0xe0, 0xd6, 0x4f, 0xa3, 0x2c, 0x06, 0xde, 0x41, 0x39,
+];
+const SALT: [u8; 14] =
+    [0x0e, 0xc6, 0x75, 0xad, 0x49, 0x8a, 0xfe, 0xeb, 0xb6, 0x96, 0x0b, 0x3a, 0xab, 0xe6];
 const SSRC: u32 = 0xcafebabe;
 
 fn plain_set_up() -> SetUp<'static> {
@@ -11,7 +14,10 @@ fn plain_set_up() -> SetUp<'static> {
 }
 
 fn hex(digits: &str) -> Vec<u8> {
-    (0..digits.len()).step_by(2).map(|at| u8::from_str_radix(&digits[at..at + 2], 16).unwrap()).collect()
+    (0..digits.len())
+        .step_by(2)
+        .map(|at| u8::from_str_radix(&digits[at..at + 2], 16).unwrap())
+        .collect()
 }
 
 fn rtp(number: u16, payload: &[u8]) -> Vec<u8> {
@@ -80,7 +86,8 @@ fn settled(answer: Result<Packet, Refusal>, out: &[u8]) -> Result<(Vec<u8>, u64)
 fn published_media_packet() {
     let (mut sender, mut receiver) = pair(&plain_set_up());
     let packet = rtp(0x1234, &[0xab; 16]);
-    let protected = hex("800f1234decafbadcafebabe4e55dc4ce79978d88ca4d215949d2402b78d6acc99ea179b8dbb");
+    let protected =
+        hex("800f1234decafbadcafebabe4e55dc4ce79978d88ca4d215949d2402b78d6acc99ea179b8dbb");
     assert_eq!(media(&mut sender, &packet), Ok((protected.clone(), 0x1234)));
     assert_eq!(opened(&mut receiver, &protected), Ok((packet, 0x1234)));
 }
@@ -89,7 +96,8 @@ fn published_media_packet() {
 fn published_control_packet() {
     let (mut sender, mut receiver) = pair(&plain_set_up());
     let packet = rtcp(&[0xab; 16]);
-    let protected = hex("81c8000bcafebabeb19c219a086b6c7ae61d8e0bfeb4be3f800000005631d6cfc906cdb30f41");
+    let protected =
+        hex("81c8000bcafebabeb19c219a086b6c7ae61d8e0bfeb4be3f800000005631d6cfc906cdb30f41");
     assert_eq!(control(&mut sender, &packet), Ok((protected.clone(), 0)));
     assert_eq!(opened_control(&mut receiver, &protected), Ok((packet, 0)));
 }
@@ -99,12 +107,23 @@ fn media_round_trips_under_every_set_up() {
     for cipher in [Cipher::Aes, Cipher::Null] {
         for tag_len in [4, 10] {
             for mki_len in 0..=4 {
-                let (mut sender, mut receiver) = pair(&SetUp { mki: &[1, 2, 3, 4][..mki_len], tag_len, cipher, ..plain_set_up() });
+                let (mut sender, mut receiver) = pair(&SetUp {
+                    mki: &[1, 2, 3, 4][..mki_len],
+                    tag_len,
+                    cipher,
+                    ..plain_set_up()
+                });
                 for (at, len) in [0, 1, 15, 16, 17, 1000, 2036].into_iter().enumerate() {
                     let packet = rtp(at as u16, &vec![at as u8; len]);
                     let (protected, index) = media(&mut sender, &packet).unwrap();
-                    assert_eq!((protected.len(), index), (packet.len() + mki_len + tag_len, at as u64));
-                    assert_eq!(protected[12..12 + len] == packet[12..], len == 0 || cipher == Cipher::Null);
+                    assert_eq!(
+                        (protected.len(), index),
+                        (packet.len() + mki_len + tag_len, at as u64)
+                    );
+                    assert_eq!(
+                        protected[12..12 + len] == packet[12..],
+                        len == 0 || cipher == Cipher::Null
+                    );
                     assert_eq!(opened(&mut receiver, &protected), Ok((packet, index)));
                 }
             }
@@ -117,11 +136,19 @@ fn control_round_trips_under_every_set_up() {
     for cipher in [Cipher::Aes, Cipher::Null] {
         for tag_len in [4, 10] {
             for mki_len in 0..=4 {
-                let (mut sender, mut receiver) = pair(&SetUp { mki: &[1, 2, 3, 4][..mki_len], tag_len, cipher, ..plain_set_up() });
+                let (mut sender, mut receiver) = pair(&SetUp {
+                    mki: &[1, 2, 3, 4][..mki_len],
+                    tag_len,
+                    cipher,
+                    ..plain_set_up()
+                });
                 for (at, len) in [0, 4, 16, 1000, 2040].into_iter().enumerate() {
                     let packet = rtcp(&vec![at as u8; len]);
                     let (protected, index) = control(&mut sender, &packet).unwrap();
-                    assert_eq!((protected.len(), index), (packet.len() + 4 + mki_len + 10, at as u64));
+                    assert_eq!(
+                        (protected.len(), index),
+                        (packet.len() + 4 + mki_len + 10, at as u64)
+                    );
                     assert_eq!(opened_control(&mut receiver, &protected), Ok((packet, index)));
                 }
             }
@@ -166,7 +193,15 @@ fn a_forged_packet_does_not_shut_out_the_good_one() {
 fn the_rollover_counter_goes_on() {
     let (mut sender, mut receiver) = pair(&plain_set_up());
     let mut late = Vec::new();
-    for (number, index) in [(65_534, 65_534), (65_535, 65_535), (0, 65_536), (1, 65_537), (32_768, 98_304), (65_535, 131_071), (3, 131_075)] {
+    for (number, index) in [
+        (65_534, 65_534),
+        (65_535, 65_535),
+        (0, 65_536),
+        (1, 65_537),
+        (32_768, 98_304),
+        (65_535, 131_071),
+        (3, 131_075),
+    ] {
         let packet = rtp(number, b"x");
         let (protected, at) = media(&mut sender, &packet).unwrap();
         assert_eq!(at, index);
@@ -184,7 +219,8 @@ fn the_rollover_counter_goes_on() {
 #[test]
 fn the_window_covers_63_behind_the_highest() {
     let (mut sender, mut receiver) = pair(&plain_set_up());
-    let sent: Vec<_> = (0..=1000).map(|number| media(&mut sender, &rtp(number, b"x")).unwrap().0).collect();
+    let sent: Vec<_> =
+        (0..=1000).map(|number| media(&mut sender, &rtp(number, b"x")).unwrap().0).collect();
     assert!(opened(&mut receiver, &sent[1000]).is_ok());
     assert_eq!(opened(&mut receiver, &sent[937]).unwrap().1, 937);
     assert_eq!(opened(&mut receiver, &sent[936]), Err(Refusal::Old));
@@ -206,7 +242,13 @@ fn a_receiver_joins_at_a_rollover_counter() {
     let mut receiver = Receiver::set_up(&plain_set_up(), 0, None).unwrap();
     assert_eq!(opened(&mut receiver, &sent), Err(Refusal::Forged));
     let mut receiver = Receiver::set_up(&plain_set_up(), 0, Some(5)).unwrap();
-    assert_eq!(opened(&mut receiver, &media(&mut Sender::set_up(&plain_set_up()).unwrap(), &rtp(0xfffa, b"x")).unwrap().0), Err(Refusal::Old));
+    assert_eq!(
+        opened(
+            &mut receiver,
+            &media(&mut Sender::set_up(&plain_set_up()).unwrap(), &rtp(0xfffa, b"x")).unwrap().0
+        ),
+        Err(Refusal::Old)
+    );
 }
 
 // ---- refusals

@@ -1,4 +1,5 @@
 -- `Receiver::judge_media_index` meets its contract: each way out by its law. Assumes nothing.
+use native.Mathlib.Omega.{arith}
 use borrow.Author.Needs.{needs}
 use denote.Ref.{now}
 use Rattle.srtp.proofs.ReceiveMediaRows.{media-spent, media-below, in-bound, media-placed}
@@ -18,7 +19,7 @@ enum-known-estimate : tie.Need-enum-known-estimate
 enum-known-estimate c = search needs
 
 judge-media-at-requires : tie.Need-judge-media-at-requires
-judge-media-at-requires c κs = (let s = c .before .before .before .before .before .before .before in in-bound (s .args .self) (s .args .header-len) (s .args .number) (now (s .args .authenticated)) (now (s .args .tag)) (c .before .before .before .estimate .ensures) _ (c .before .estimate2 .given .1), search needs, search needs)
+judge-media-at-requires c κs = let s = c .before .before .before .before .before .before .before in (omega (arith, in-bound (s .args .self) (s .args .header-len) (s .args .number) (now (s .args .authenticated)) (now (s .args .tag)) (c .before .before .before .estimate .ensures) _ (c .before .estimate2 .given .1)), search needs, search needs)
 
 returns : tie.Need-returns
 returns c = let s = c .before .before .before .before .before .before in media-spent (s .args .self) (s .args .header-len) (s .args .number) (now (s .args .authenticated)) (now (s .args .tag)) (c .before .before .estimate .ensures) (c .enum-told .given .1)

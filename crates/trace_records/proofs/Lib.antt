@@ -1,0 +1,4 @@
+pub mod AnswerLaws
+mod AnswerReturns
+mod SetUpReturns
+mod CallReturns

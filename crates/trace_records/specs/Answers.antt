@@ -1,0 +1,39 @@
+-- Answers as bytes, big end first: op (1), refusal number, 0 or 255 (1), index (8), length (2), size of the outgoing buffer (2), and the
+-- whole outgoing buffer. Assumes nothing.
+use Prim.Native.Nat.{ℕ}
+use mathlib.Core.List.{List, [], _∷_, _++_}
+use lib.ListN.{length}
+use Rattle.octets.specs.BigEndian.{toBytes}
+use Rattle.srtp.specs.Refusals.{numberOf}
+use Rattle.srtp.specs.declared.Answer.{Answer}
+use Rattle.srtp.specs.declared.Answer.the-variants as answer
+use Rattle.srtp.specs.declared.SetUpAnswer.{SetUpAnswer}
+use Rattle.srtp.specs.declared.SetUpAnswer.the-variants as setup
+use Rattle.trace_records.specs.declared.Head.{Head}
+
+-- bytes before the buffer
+abbrev pub headLength : ℕ
+headLength = 14
+
+unfoldable pub headBytes : (op : ℕ) → Head → (room : ℕ) → List ℕ
+headBytes op h room = op ∷ h .number ∷ (toBytes 8 (h .index) ++ (toBytes 2 (h .len) ++ toBytes 2 room))
+
+abbrev pub answerBytes : (op : ℕ) → Head → (buffer : List ℕ) → List ℕ
+answerBytes op h buffer = headBytes op h (length buffer) ++ buffer
+
+-- a number alone: index and length are 0
+abbrev pub numberAlone : ℕ → Head
+numberAlone n = record { number = n; index = 0; len = 0 }
+
+-- a record that does not fit
+abbrev pub misfitHead : Head
+misfitHead = numberAlone 255
+
+-- a call: index and length of the finished packet, or a refusal
+abbrev pub callHead : Answer → Head
+callHead (answer.Sent n i) = record { number = 0; index = i; len = n }
+callHead (answer.Refused n) = numberAlone (numberOf n)
+
+abbrev pub setUpHead : SetUpAnswer → Head
+setUpHead setup.Ready = numberAlone 0
+setUpHead (setup.Refused n) = numberAlone (numberOf n)

@@ -16,8 +16,8 @@ use Rattle.rtp.proofs.TrailerLaws.{portion-parts, mki-parts, tag-parts, parts-w
 use Rattle.rtp.proofs.IndexWordLaws.{before-word, word-is, before-word-length, word-back, word-lt, word-whole}
 use Rattle.transforms.specs.Ciphers.{ciphered}
 use Rattle.transforms.proofs.CipherLaws.{length-ciphered, ciphered-twice}
-use Rattle.srtp.specs.declared.Session.{Session}
-use Rattle.srtp.specs.Packets.{controlTagLength, cipherOf, ssrcOf, mkiBytes, cipheredControl, controlPortion, controlTag, srtcp}
+use Rattle.session.specs.declared.Session.{Session}
+use Rattle.session.specs.Packets.{controlTagLength, cipherOf, ssrcOf, mkiBytes, cipheredControl, controlPortion, controlTag, srtcp}
 use Rattle.srtp.specs.Calls.{controlReceived}
 use Rattle.demands.proofs.SettingLaws.{length-controlTag}
 

@@ -6,12 +6,12 @@ use lib.ListN.{length}
 use Rattle.octets.specs.BigEndian.{Bytes}
 use Rattle.rtp.specs.Protected.{authenticatedPortion, tagOf, wordOf, eFlag}
 use Rattle.srtp.specs.declared.LastNumber.{LastNumber}
-use Rattle.srtp.specs.declared.Session.{Session}
+use Rattle.session.specs.declared.Session.{Session}
 use Rattle.srtp.specs.declared.Receiver.{Receiver}
 use Rattle.srtp.specs.declared.Sender.{Sender}
 use Rattle.srtp.specs.Outcomes.{done}
-use Rattle.srtp.specs.Packets.{controlTagLength, ssrcOf, mediaTag, controlTag, srtcp}
-use Rattle.srtp.specs.SetUps.{SetUp, sessionOf, protectMedia, protectControl}
+use Rattle.session.specs.Packets.{controlTagLength, ssrcOf, mediaTag, controlTag, srtcp}
+use Rattle.session.specs.SetUps.{SetUp, sessionOf, protectMedia, protectControl}
 use Rattle.demands.specs.Runs.{Kind, media, control, Call, receiverAfter, receiverOutcome, senderAfter, senderOutcome}
 use Rattle.demands.specs.Words.{receivedE, protectedAs, TagFor, Finishes, protected, Plain}
 use Rattle.demands.specs.Demands.{Opened, ReceiverDemand2, SenderDemand2}

@@ -19,11 +19,11 @@ use Rattle.replay.proofs.AcceptedLaws.{after-highest, after-mem, unseen-new}
 use Rattle.replay.proofs.WindowLaws.{start-means, after-means, window-is-set}
 use Rattle.srtp.specs.declared.LastNumber.{LastNumber}
 use Rattle.srtp.specs.declared.LastNumber.the-variants.{Unknown, Known}
-use Rattle.srtp.specs.declared.Session.{Session}
+use Rattle.session.specs.declared.Session.{Session}
 use Rattle.srtp.specs.declared.Receiver.{Receiver}
 use Rattle.srtp.specs.Outcomes.{done}
-use Rattle.srtp.specs.Packets.{ssrcOf, cipherOf, encrypts, cipheredMedia, cipheredControl}
-use Rattle.srtp.specs.SetUps.{SetUp, listed, sessionOf, settingsListed}
+use Rattle.session.specs.Packets.{ssrcOf, cipherOf, encrypts, cipheredMedia, cipheredControl}
+use Rattle.session.specs.SetUps.{SetUp, listed, sessionOf, settingsListed}
 use Rattle.srtp.specs.Contexts.{highestAtMost, startHighest, startReceiver, setUpReceiver, receiverListed}
 use Rattle.srtp.specs.Calls.{mediaPortion, controlReceived}
 use Rattle.demands.specs.Runs.{Kind, media, control, Call, receive, receiving, after, accepted, senderOutcome}

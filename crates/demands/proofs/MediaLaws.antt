@@ -13,9 +13,9 @@ use Rattle.rtp.proofs.RtpLaws.{header-least, rtp-fits, header-front, rtp-front,
 use Rattle.rtp.proofs.TrailerLaws.{portion-parts, mki-parts, tag-parts, parts-whole, portion-length}
 use Rattle.transforms.specs.Ciphers.{ciphered}
 use Rattle.transforms.proofs.CipherLaws.{length-ciphered, ciphered-twice}
-use Rattle.srtp.specs.declared.Session.{Session}
-use Rattle.srtp.specs.Packets.{cipherOf, ssrcOf, tagLength, mkiBytes, cipheredMedia, mediaTag, srtp}
-use Rattle.srtp.specs.SetUps.{settingsListed}
+use Rattle.session.specs.declared.Session.{Session}
+use Rattle.session.specs.Packets.{cipherOf, ssrcOf, tagLength, mkiBytes, cipheredMedia, mediaTag, srtp}
+use Rattle.session.specs.SetUps.{settingsListed}
 use Rattle.srtp.specs.Calls.{mediaPortion}
 use Rattle.demands.proofs.SettingLaws.{length-mediaTag}
 

@@ -16,11 +16,11 @@ use Rattle.rtp.specs.Rtcp.{isRtcp, rtcpSsrc}
 use Rattle.rtp.specs.Protected.{mkiOf, tagOf, rtcpPortion, wordOf, indexWord}
 use Rattle.rtp.proofs.IndexWordLaws.{word-flag, word-index}
 use Rattle.replay.specs.Index.{maxMediaIndex, estimate}
-use Rattle.srtp.specs.declared.Session.{Session}
+use Rattle.session.specs.declared.Session.{Session}
 use Rattle.srtp.specs.declared.Receiver.{Receiver}
 use Rattle.srtp.specs.Outcomes.{done}
-use Rattle.srtp.specs.Packets.{controlTagLength, cipherOf, ssrcOf, tagLength, mkiBytes, cipheredMedia, mediaTag, srtp, encrypts, cipheredControl, controlPortion, controlTag, srtcp}
-use Rattle.srtp.specs.SetUps.{settingsListed}
+use Rattle.session.specs.Packets.{controlTagLength, cipherOf, ssrcOf, tagLength, mkiBytes, cipheredMedia, mediaTag, srtp, encrypts, cipheredControl, controlPortion, controlTag, srtcp}
+use Rattle.session.specs.SetUps.{settingsListed}
 use Rattle.srtp.specs.Calls.{maxPacketLength, isOld, isRepeat, mediaPortion, mediaIndex, receiveMediaRows, mediaOpened, receiveMedia, controlReceived, controlIndex, receiveControlRows, controlOpened, receiveControl}
 use Rattle.demands.specs.Runs.{Kind, media, control, receive}
 use Rattle.demands.proofs.RowLaws.{none, _also_, rows-pass}

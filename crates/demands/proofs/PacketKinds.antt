@@ -9,9 +9,9 @@ use Rattle.replay.specs.Index.{maxMediaIndex, maxControlIndex}
 use Rattle.replay.specs.Window.{windowLength, windowVerdict, windowMark}
 use Rattle.replay.specs.declared.window.Window.{Window}
 use Rattle.replay.specs.declared.window.Verdict.the-variants.{New}
-use Rattle.srtp.specs.declared.Session.{Session}
+use Rattle.session.specs.declared.Session.{Session}
 use Rattle.srtp.specs.declared.Receiver.{Receiver}
-use Rattle.srtp.specs.Packets.{controlTagLength, cipherOf, ssrcOf, tagLength, mediaTag, srtp, encrypts, controlTag, srtcp}
+use Rattle.session.specs.Packets.{controlTagLength, cipherOf, ssrcOf, tagLength, mediaTag, srtp, encrypts, controlTag, srtcp}
 use Rattle.srtp.specs.Contexts.{receiverListed}
 use Rattle.srtp.specs.Calls.{maxPacketLength, mediaPortion, controlReceived}
 use Rattle.demands.specs.Runs.{Kind, media, control}

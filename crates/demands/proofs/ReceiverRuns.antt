@@ -17,7 +17,7 @@ use Rattle.replay.specs.declared.window.Window.{Window}
 use Rattle.replay.specs.declared.window.Verdict.the-variants.{New}
 use Rattle.srtp.specs.declared.Receiver.{Receiver}
 use Rattle.srtp.specs.Outcomes.{Outcome, refused, done, answerOf, nextOf}
-use Rattle.srtp.specs.SetUps.{settingsListed}
+use Rattle.session.specs.SetUps.{settingsListed}
 use Rattle.srtp.specs.Contexts.{highestAtMost, receiverListed}
 use Rattle.demands.specs.Runs.{Kind, media, control, Call, receive, receiving, after, acceptedBy, accepted}
 use Rattle.demands.proofs.PacketKinds.{maxIndex, windowOf, marked}

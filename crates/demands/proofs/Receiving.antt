@@ -20,10 +20,10 @@ use Rattle.replay.specs.declared.window.Window.{Window}
 use Rattle.replay.specs.declared.window.Verdict.{Verdict}
 use Rattle.replay.specs.declared.window.Verdict.the-variants.{New, Old, Repeat}
 use Rattle.replay.proofs.IndexLaws.{estimate-number}
-use Rattle.srtp.specs.declared.Session.{Session}
+use Rattle.session.specs.declared.Session.{Session}
 use Rattle.srtp.specs.declared.Receiver.{Receiver}
 use Rattle.srtp.specs.Outcomes.{done}
-use Rattle.srtp.specs.Packets.{controlTagLength, tagLength, mkiBytes, cipheredMedia, mediaTag, cipheredControl, controlTag}
+use Rattle.session.specs.Packets.{controlTagLength, tagLength, mkiBytes, cipheredMedia, mediaTag, cipheredControl, controlTag}
 use Rattle.srtp.specs.Calls.{tooHigh, isOld, isRepeat, old, natural, mediaPortion, mediaIndex, receiveMediaRows, mediaOpened, receiveMedia, controlReceived, controlIndex, receiveControlRows, controlOpened, receiveControl}
 use Rattle.demands.specs.Runs.{Kind, media, control, receive}
 use Rattle.demands.specs.Words.{HasIndex}

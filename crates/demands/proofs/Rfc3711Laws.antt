@@ -14,8 +14,8 @@ use Rattle.transforms.specs.declared.Cipher.{Cipher}
 use Rattle.transforms.specs.declared.Cipher.the-variants.{Aes, Null}
 use Rattle.transforms.proofs.CipherLaws.{null-text, ciphered-from-start}
 use Rattle.transforms.proofs.DerivationLaws.{derived-session-keys}
-use Rattle.srtp.specs.Packets.{controlTagLength, cipheredMedia, mediaTag, srtp, cipheredControl, controlPortion, controlTag, srtcp}
-use Rattle.srtp.specs.SetUps.{SetUp, sessionOf, protectMedia, protectControl}
+use Rattle.session.specs.Packets.{controlTagLength, cipheredMedia, mediaTag, srtp, cipheredControl, controlPortion, controlTag, srtcp}
+use Rattle.session.specs.SetUps.{SetUp, sessionOf, protectMedia, protectControl}
 use Rattle.demands.specs.Rfc3711.{encryptedBy, tagged, srtpTag, srtpPacket, srtcpTag, srtcpPacket}
 use Rattle.demands.proofs.SettingLaws.{mki-kept}
 

@@ -15,8 +15,8 @@ use Rattle.replay.specs.Index.{maxMediaIndex, maxControlPackets, nextIndex}
 use Rattle.replay.proofs.IndexLaws.{sent-number}
 use Rattle.srtp.specs.declared.Sender.{Sender}
 use Rattle.srtp.specs.Outcomes.{Outcome, done, nextOf}
-use Rattle.srtp.specs.Packets.{controlTagLength, cipherOf, ssrcOf, tagLength, mkiBytes, srtp, srtcp, encrypts}
-use Rattle.srtp.specs.SetUps.{settingsListed}
+use Rattle.session.specs.Packets.{controlTagLength, cipherOf, ssrcOf, tagLength, mkiBytes, srtp, srtcp, encrypts}
+use Rattle.session.specs.SetUps.{settingsListed}
 use Rattle.srtp.specs.Contexts.{senderListed, lastAtMost}
 use Rattle.srtp.specs.Calls.{maxPacketLength, sendMediaRows, mediaSent, sendMedia, sendControlRows, controlSent, sendControl}
 use Rattle.demands.specs.Runs.{Kind, media, control, send}

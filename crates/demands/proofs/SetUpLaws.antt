@@ -6,12 +6,12 @@ use mathlib.Core.Bool.{Bool, true, false, cond, true≢false}
 use mathlib.Core.List.{List, [], _∷_}
 use lib.ListN.{length}
 use Rattle.srtp.specs.declared.LastNumber.{LastNumber}
-use Rattle.srtp.specs.declared.Session.{Session}
+use Rattle.session.specs.declared.Session.{Session}
 use Rattle.srtp.specs.declared.Sender.{Sender}
 use Rattle.srtp.specs.Outcomes.{Outcome, refused, done, nextOf}
-use Rattle.srtp.specs.Packets.{encrypts}
-use Rattle.srtp.specs.SetUps.{SetUp, settingsListed, listed, sessionOf, protectMedia, protectControl}
-use Rattle.srtp.specs.Contexts.{closedSession, closedSender, closedReceiver, startReceiver, setUpSender, setUpReceiver}
+use Rattle.session.specs.Packets.{encrypts}
+use Rattle.session.specs.SetUps.{closedSession, SetUp, settingsListed, listed, sessionOf, protectMedia, protectControl}
+use Rattle.srtp.specs.Contexts.{closedSender, closedReceiver, startReceiver, setUpSender, setUpReceiver}
 use Rattle.demands.specs.Runs.{Kind, media, control, Call, send, sending, after, senderAfter, receiverAfter}
 use Rattle.demands.specs.Words.{protected}
 use Rattle.demands.proofs.Rfc3711Laws.{protect-media, protect-control}

@@ -10,9 +10,9 @@ use borrow.Author.Tests.{eqb-true}
 use Rattle.octets.proofs.BufferLaws.{take-over}
 use Rattle.rtp.proofs.AnswerLaws.{both}
 use Rattle.transforms.proofs.TagLaws as tag
-use Rattle.srtp.specs.declared.Session.{Session}
-use Rattle.srtp.specs.Packets.{controlTagLength, tagLength, mkiBytes, mediaTag, controlTag}
-use Rattle.srtp.specs.SetUps.{SetUp, settingsListed, listed, sessionOf}
+use Rattle.session.specs.declared.Session.{Session}
+use Rattle.session.specs.Packets.{controlTagLength, tagLength, mkiBytes, mediaTag, controlTag}
+use Rattle.session.specs.SetUps.{SetUp, settingsListed, listed, sessionOf}
 
 -- a context keeps the MKI of its set-up
 pub mki-kept : (u : SetUp) → mkiBytes (sessionOf u) ≡ u .mki

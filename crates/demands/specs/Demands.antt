@@ -13,7 +13,7 @@ use Rattle.srtp.specs.declared.Answer.the-variants.{Sent, Refused}
 use Rattle.srtp.specs.declared.LastNumber.{LastNumber}
 use Rattle.srtp.specs.declared.Refusal.{Refusal}
 use Rattle.srtp.specs.Outcomes.{Outcome, answerOf, nextOf, bufferOf}
-use Rattle.srtp.specs.SetUps.{SetUp, listed}
+use Rattle.session.specs.SetUps.{SetUp, listed}
 use Rattle.demands.specs.Runs.{Kind, Call, senderOutcome, receiverOutcome}
 use Rattle.demands.specs.Words.{FinishedAt, comesOut, Finishes, protected, Plain, Made, protectedAs, TagFor, acceptedAs, New, WithinReach}
 

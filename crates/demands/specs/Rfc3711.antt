@@ -14,8 +14,8 @@ use Rattle.transforms.specs.KeyDerivation.{mediaLabel, controlLabel}
 use Rattle.transforms.specs.Rfc3711.{counterMode, prf}
 use Rattle.transforms.specs.declared.Cipher.{Cipher}
 use Rattle.transforms.specs.declared.Cipher.the-variants.{Aes, Null}
-use Rattle.srtp.specs.Packets.{controlTagLength}
-use Rattle.srtp.specs.SetUps.{SetUp}
+use Rattle.session.specs.Packets.{controlTagLength}
+use Rattle.session.specs.SetUps.{SetUp}
 
 module _ (u : SetUp) where
   -- 4.3.1: n bytes of session key at a label (4.3.2: 0, 1, 2 for SRTP's encryption, authentication and salting key; 3, 4, 5 for SRTCP's)

@@ -9,7 +9,7 @@ use Rattle.srtp.specs.declared.LastNumber.{LastNumber}
 use Rattle.srtp.specs.declared.Sender.{Sender}
 use Rattle.srtp.specs.declared.Receiver.{Receiver}
 use Rattle.srtp.specs.Outcomes.{Outcome, answerOf, nextOf}
-use Rattle.srtp.specs.SetUps.{SetUp}
+use Rattle.session.specs.SetUps.{SetUp}
 use Rattle.srtp.specs.Contexts.{setUpSender, setUpReceiver}
 use Rattle.srtp.specs.Calls.{sendMedia, sendControl, receiveMedia, receiveControl}
 

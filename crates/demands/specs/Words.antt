@@ -16,8 +16,8 @@ use Rattle.srtp.specs.declared.Answer.the-variants.{Sent, Refused}
 use Rattle.srtp.specs.declared.LastNumber.{LastNumber}
 use Rattle.srtp.specs.declared.LastNumber.the-variants.{Unknown, Known}
 use Rattle.srtp.specs.Outcomes.{Outcome, answerOf, bufferOf}
-use Rattle.srtp.specs.Packets.{controlTagLength, encrypts}
-use Rattle.srtp.specs.SetUps.{SetUp, listed}
+use Rattle.session.specs.Packets.{controlTagLength, encrypts}
+use Rattle.session.specs.SetUps.{SetUp, listed}
 use Rattle.srtp.specs.Contexts.{startHighest, setUpReceiver}
 use Rattle.srtp.specs.Calls.{maxPacketLength}
 use Rattle.demands.specs.Runs.{Kind, media, control, Call, accepted}

@@ -23,7 +23,7 @@ use Rattle.transforms.specs.Tag as tag
 use Rattle.srtp.specs.Calls.{controlReceived, controlIndex, receiveControlRows, controlOpened, receiveControl}
 use Rattle.srtp.specs.Contexts.{receiverListed}
 use Rattle.srtp.specs.Outcomes.{refused, done, settled, ReceiverShows}
-use Rattle.srtp.specs.Packets.{controlTagLength, mkiBytes, cipheredControl, controlTag}
+use Rattle.session.specs.Packets.{controlTagLength, mkiBytes, cipheredControl, controlTag}
 use Rattle.srtp.specs.ReceiverSteps.{judgedAs, controlAs, addressRows, replayRows, controlAtRows, controlAtVerdict, controlVerdict}
 use Rattle.srtp.specs.Refusals.{Row, row, Judgement, passes, stops, judged}
 use Rattle.srtp.specs.declared.Answer.the-variants.{Sent}
@@ -37,7 +37,7 @@ use Rattle.srtp.specs.declared.receiving.Judged.the-variants.{Passes, St
 use Rattle.srtp.proofs.ReceiverLaws.{mki-of, front-length, told-stops, told-passes, last-row, to-end, rtcp-take}
 use Rattle.srtp.proofs.ReceiverReturns.{shows-done}
 use Rattle.srtp.proofs.RowLaws.{none-holds}
-use Rattle.srtp.proofs.SessionLaws.{length-cipheredControl}
+use Rattle.session.proofs.SessionLaws.{length-cipheredControl}
 
 -- ---- OLD, REPEAT and FORGED at an index
 module _ (c : Receiver) (n : ℕ) (x : Bool) (i : ℕ) (a t : List ℕ) {v : Judged} (e : v ≡ judgedAs (judged (replayRows (c .control) i))) where

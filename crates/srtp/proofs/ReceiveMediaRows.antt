@@ -27,7 +27,7 @@ use Rattle.transforms.specs.Tag as tag
 use Rattle.srtp.specs.Calls.{tooHigh, natural, mediaPortion, mediaIndex, receiveMediaRows, mediaOpened, receiveMedia}
 use Rattle.srtp.specs.Contexts.{receiverListed}
 use Rattle.srtp.specs.Outcomes.{refused, done, settled, ReceiverShows}
-use Rattle.srtp.specs.Packets.{mkiBytes, cipheredMedia, mediaTag, tagLength}
+use Rattle.session.specs.Packets.{mkiBytes, cipheredMedia, mediaTag, tagLength}
 use Rattle.srtp.specs.ReceiverSteps.{judgedAs, mediaAs, addressRows, replayRows, mediaAtVerdict, mediaIndexRows, mediaIndexVerdict, mediaVerdict}
 use Rattle.srtp.specs.Refusals.{Row, row, Judgement, passes, stops, judged}
 use Rattle.srtp.specs.declared.Answer.the-variants.{Sent}
@@ -41,7 +41,7 @@ use Rattle.srtp.specs.declared.receiving.MediaVerdict.the-variants as me
 use Rattle.srtp.proofs.ReceiverLaws.{mki-of, front-length, told-stops, told-passes, last-row, to-end, portion-take}
 use Rattle.srtp.proofs.ReceiverReturns.{shows-done}
 use Rattle.srtp.proofs.RowLaws.{none-holds}
-use Rattle.srtp.proofs.SessionLaws.{length-cipheredMedia}
+use Rattle.session.proofs.SessionLaws.{length-cipheredMedia}
 
 -- ---- SPENT to FORGED, at the place of a packet
 placed-at : (k : ℤ) {e f : Estimate} → e ≡ placed k → e ≡ f → PlacedAs k f

@@ -11,15 +11,15 @@ use Rattle.rtp.proofs.AnswerLaws.{both}
 use Rattle.rtp.proofs.TrailerLaws.{Trailing, portion-length}
 use Rattle.rtp.specs.Protected.{authenticatedPortion, rtcpPortion}
 use Rattle.srtp.specs.Contexts.{receiverListed}
-use Rattle.srtp.specs.Packets.{mkiBytes}
+use Rattle.session.specs.Packets.{mkiBytes}
 use Rattle.srtp.specs.ReceiverSteps.{judgedAs}
 use Rattle.srtp.specs.Refusals.{Row, row, Judgement, passes, stops, judged}
-use Rattle.srtp.specs.SetUps.{settingsListed}
+use Rattle.session.specs.SetUps.{settingsListed}
 use Rattle.srtp.specs.declared.Receiver.{Receiver}
 use Rattle.srtp.specs.declared.Refusal.{Refusal}
 use Rattle.srtp.specs.declared.receiving.Judged.{Judged}
 use Rattle.srtp.specs.declared.receiving.Judged.the-variants.{Passes, Stops}
-use Rattle.srtp.proofs.SessionLaws.{Listed, settings-listed, mki-length}
+use Rattle.session.proofs.SessionLaws.{Listed, settings-listed, mki-length}
 
 -- ---- row 1
 pub receiver-listed : (c : Receiver) → receiverListed c ≡ true → Listed (c .session .settings)

@@ -24,12 +24,12 @@ use Rattle.srtp.specs.Contexts.{highestAtMost, receiverListed}
 use Rattle.srtp.specs.Outcomes.{Outcome, refused, done, ReceiverShows}
 use Rattle.srtp.specs.ReceiverSteps.{judgedAs, addressRows, replayRows}
 use Rattle.srtp.specs.Refusals.{row, judged}
-use Rattle.srtp.specs.SetUps.{settingsListed}
+use Rattle.session.specs.SetUps.{settingsListed}
 use Rattle.srtp.specs.declared.Answer.the-variants.{Sent, Refused}
 use Rattle.srtp.specs.declared.Receiver.{Receiver}
 use Rattle.srtp.specs.declared.Refusal.{Refusal}
 use Rattle.srtp.specs.declared.Refusal.the-variants.{Stream, Room, Key, Old, Repeat}
-use Rattle.srtp.specs.declared.Settings.{Settings}
+use Rattle.session.specs.declared.Settings.{Settings}
 use Rattle.srtp.specs.declared.receiving.Judged.{Judged}
 use Rattle.srtp.specs.declared.receiving.Judged.the-variants.{Passes, Stops}
 

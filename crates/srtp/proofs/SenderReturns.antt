@@ -16,7 +16,7 @@ use Rattle.rtp.specs.Rtp.{isRtp, headerLength, sequenceNumber}
 use Rattle.srtp.specs.Calls.{sendMediaRows, mediaSent, sendMedia, sendControlRows, controlSent, sendControl}
 use Rattle.srtp.specs.Contexts.{senderListed}
 use Rattle.srtp.specs.Outcomes.{settled, SenderShows}
-use Rattle.srtp.specs.Packets.{cipherOf, mkiBytes, tagLength, encrypts, srtp, srtcp}
+use Rattle.session.specs.Packets.{cipherOf, mkiBytes, tagLength, encrypts, srtp, srtcp}
 use Rattle.srtp.specs.Refusals.{Judgement, passes, stops, judged}
 use Rattle.srtp.specs.SenderSteps.{mediaAs, controlAs, mediaVerdictFrom, controlVerdictFrom}
 use Rattle.srtp.specs.declared.Answer.the-variants.{Sent, Refused}
@@ -28,7 +28,7 @@ use Rattle.srtp.specs.declared.sending.MediaVerdict.{MediaVerdict}
 use Rattle.srtp.specs.declared.sending.MediaVerdict.the-variants as media
 use Rattle.srtp.proofs.RowLaws.{none-holds, shows-refused, shows-done}
 use Rattle.srtp.proofs.SenderRows.{sender-listed}
-use Rattle.srtp.proofs.SessionLaws.{Listed, mki-length}
+use Rattle.session.proofs.SessionLaws.{Listed, mki-length}
 
 -- ---- what a verdict tells of the judgement
 media-stops : (n i : ℕ) (j : Judgement) {v : MediaVerdict} {r : Refusal} → v ≡ mediaAs n i j → v ≡ media.Stops r → j ≡ stops r

@@ -24,16 +24,16 @@ use Rattle.rtp.specs.declared.Header.the-variants.{Rtp, NotRtp}
 use Rattle.rtp.specs.declared.RtcpHeader.{RtcpHeader}
 use Rattle.rtp.specs.declared.RtcpHeader.the-variants.{Rtcp, NotRtcp}
 use Rattle.srtp.specs.Contexts.{lastAtMost, senderListed}
-use Rattle.srtp.specs.Packets.{mkiBytes}
+use Rattle.session.specs.Packets.{mkiBytes}
 use Rattle.srtp.specs.SenderSteps.{mediaVerdictFrom, controlVerdictFrom}
-use Rattle.srtp.specs.SetUps.{settingsListed}
+use Rattle.session.specs.SetUps.{settingsListed}
 use Rattle.srtp.specs.declared.Refusal.the-variants.{Setup, Long, Shape, Stream, Room, Order, Spent}
 use Rattle.srtp.specs.declared.Sender.{Sender}
 use Rattle.srtp.specs.declared.sending.ControlVerdict.{ControlVerdict}
 use Rattle.srtp.specs.declared.sending.ControlVerdict.the-variants as control
 use Rattle.srtp.specs.declared.sending.MediaVerdict.{MediaVerdict}
 use Rattle.srtp.specs.declared.sending.MediaVerdict.the-variants as media
-use Rattle.srtp.proofs.SessionLaws.{Listed, settings-listed, mki-length}
+use Rattle.session.proofs.SessionLaws.{Listed, settings-listed, mki-length}
 
 -- ---- last_listed, Sender::listed
 pub last-at : (l : LastSent) (i : ℕ) → l ≡ last.At i → leb i maxMediaIndex ≡ lastAtMost maxMediaIndex l

@@ -16,12 +16,12 @@ use Rattle.replay.specs.declared.window.Window.{Window}
 use Rattle.replay.specs.declared.window.Verdict.{Verdict}
 use Rattle.replay.specs.declared.window.Verdict.the-variants as verdict
 use Rattle.srtp.specs.declared.Refusal.the-variants.{Setup, Long, Shape, Stream, Room, Key, Order, Spent, Old, Repeat, Forged}
-use Rattle.srtp.specs.declared.Session.{Session}
+use Rattle.session.specs.declared.Session.{Session}
 use Rattle.srtp.specs.declared.Sender.{Sender}
 use Rattle.srtp.specs.declared.Receiver.{Receiver}
 use Rattle.srtp.specs.Refusals.{Row, row, judged}
 use Rattle.srtp.specs.Outcomes.{Outcome, done, settled}
-use Rattle.srtp.specs.Packets.{controlTagLength, cipherOf, ssrcOf, tagLength, mkiBytes, cipheredMedia, mediaTag, srtp, encrypts, cipheredControl, controlTag, srtcp}
+use Rattle.session.specs.Packets.{controlTagLength, cipherOf, ssrcOf, tagLength, mkiBytes, cipheredMedia, mediaTag, srtp, encrypts, cipheredControl, controlTag, srtcp}
 use Rattle.srtp.specs.Contexts.{senderListed, receiverListed}
 
 -- a plain packet has at most so many bytes

@@ -4,44 +4,24 @@ use mathlib.Core.Path.{_≡_}
 use mathlib.Core.Bool.{Bool, true, cond, _&&_}
 use mathlib.Core.List.{List}
 use lib.Dec.{leb}
-use lib.ListN.{replicate}
 use Rattle.replay.specs.Index.{indexOf, maxMediaIndex, maxControlIndex, maxControlPackets, mediaStart, controlStart}
 use Rattle.replay.specs.Window.{windowStart}
 use Rattle.replay.specs.declared.index.Highest.{Highest}
 use Rattle.replay.specs.declared.index.Highest.the-variants as highest
 use Rattle.replay.specs.declared.index.LastSent.{LastSent}
 use Rattle.replay.specs.declared.index.LastSent.the-variants as last
-use Rattle.transforms.specs.declared.Cipher.the-variants.{Null}
-use Rattle.transforms.specs.declared.SessionKeys.{SessionKeys}
 use Rattle.srtp.specs.declared.LastNumber.{LastNumber}
 use Rattle.srtp.specs.declared.LastNumber.the-variants.{Unknown, Known}
 use Rattle.srtp.specs.declared.Refusal.the-variants.{Setup}
 use Rattle.srtp.specs.declared.SetUpAnswer.{SetUpAnswer}
 use Rattle.srtp.specs.declared.SetUpAnswer.the-variants.{Ready, Refused}
-use Rattle.srtp.specs.declared.Session.{Session}
 use Rattle.srtp.specs.declared.Sender.{Sender}
 use Rattle.srtp.specs.declared.Receiver.{Receiver}
 use Rattle.srtp.specs.declared.SenderSetUp.{SenderSetUp}
 use Rattle.srtp.specs.declared.ReceiverSetUp.{ReceiverSetUp}
-use Rattle.srtp.specs.SetUps.{SetUp, settingsListed, listed, sessionOf}
+use Rattle.session.specs.SetUps.{SetUp, settingsListed, listed, sessionOf, closedSession}
 
--- ---- closed: a tag of length 0 is refused by every call
-abbrev pub noKeys : SessionKeys
-noKeys =
-    record {
-      round = replicate 44 0;
-      tag = record { inner = record { a = 0; b = 0; c = 0; d = 0; e = 0 }; outer = record { a = 0; b = 0; c = 0; d = 0; e = 0 } };
-      salt = replicate 14 0;
-    }
-
-abbrev pub closedSession : Session
-closedSession =
-    record {
-      settings = record { profile = record { cipher = Null; «tag_len» = 0 }; ssrc = 0; mki = replicate 4 0; «mki_len» = 0 };
-      media = noKeys;
-      control = noKeys;
-    }
-
+-- ---- closed: every call is refused
 unfoldable pub closedSender : Sender
 closedSender = record { session = closedSession; media = mediaStart; control = controlStart }
 

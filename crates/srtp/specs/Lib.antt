@@ -1,9 +1,6 @@
 pub mod Refusals
 pub mod Outcomes
-pub mod Packets
-pub mod SetUps
 pub mod Contexts
 pub mod Calls
-pub mod SharedSteps
 pub mod ReceiverSteps
 pub mod SenderSteps

@@ -13,11 +13,11 @@ use Rattle.replay.specs.declared.window.Window.{Window}
 use Rattle.rtp.specs.Protected.{rtcpPortion, wordOf, eFlag}
 use Rattle.rtp.specs.Rtp.{headerLength}
 use Rattle.srtp.specs.Calls.{tooHigh, isOld, isRepeat, old, natural, mediaPortion, mediaIndex, receiveMediaRows, controlReceived, controlIndex, receiveControlRows}
-use Rattle.srtp.specs.Packets.{mediaTag, controlTag}
+use Rattle.session.specs.Packets.{mediaTag, controlTag}
 use Rattle.srtp.specs.Refusals.{Row, row, Judgement, passes, stops, judged}
 use Rattle.srtp.specs.declared.Receiver.{Receiver}
 use Rattle.srtp.specs.declared.Refusal.the-variants.{Stream, Room, Key, Spent, Old, Repeat, Forged}
-use Rattle.srtp.specs.declared.Settings.{Settings}
+use Rattle.session.specs.declared.Settings.{Settings}
 use Rattle.srtp.specs.declared.receiving.ControlVerdict.{ControlVerdict}
 use Rattle.srtp.specs.declared.receiving.ControlVerdict.the-variants as control
 use Rattle.srtp.specs.declared.receiving.Judged.{Judged}

@@ -3,13 +3,13 @@
 mod receiving;
 mod sending;
 mod setup;
-mod shared;
 
+ghost use mathlib.Core.Path.{_≡_};
+ghost use Rattle.srtp.specs.Refusals.{numberOf};
 use replay::index::ControlSender;
 use replay::index::MediaSender;
 use replay::window::Window;
-use transforms::Cipher;
-use transforms::SessionKeys;
+use session::Session;
 
 // Why a call refuses, in the order of the table of refusals.
 pub enum Refusal {
@@ -24,6 +24,27 @@ pub enum Refusal {
     Old,
     Repeat,
     Forged,
+}
+
+impl Refusal {
+    // Its number in the table of refusals.
+    pub fn number(self) -> u8
+        ensures { λ r. ⌜ r ≡ numberOf self ⌝ }
+    {
+        match self {
+            Refusal::Setup => 1,
+            Refusal::Long => 2,
+            Refusal::Shape => 3,
+            Refusal::Stream => 4,
+            Refusal::Room => 5,
+            Refusal::Key => 6,
+            Refusal::Order => 7,
+            Refusal::Spent => 8,
+            Refusal::Old => 9,
+            Refusal::Repeat => 10,
+            Refusal::Forged => 11,
+        }
+    }
 }
 
 // A finished packet of `len` bytes at the start of the outgoing buffer, with its index; or a refusal.
@@ -42,43 +63,6 @@ pub enum SetUpAnswer {
 pub enum LastNumber {
     Unknown,
     Known(u16),
-}
-
-// A protection profile: a cipher and the length of the media tag. Every length that goes with a profile is named here.
-pub struct Profile {
-    pub cipher: Cipher,
-    pub tag_len: usize,
-}
-
-impl Profile {
-    pub const MASTER_KEY_LEN: usize = 16;
-
-    pub const MASTER_SALT_LEN: usize = 14;
-
-    pub const MAX_MKI_LEN: usize = 4;
-
-    pub const TAG_LEN: usize = 10;
-
-    pub const SHORT_TAG_LEN: usize = 4;
-
-    pub const CONTROL_TAG_LEN: usize = 10;
-    // The longest plain packet.
-    pub const MAX_PACKET_LEN: usize = 2048;
-}
-
-// What set-up checks, kept with the context. The MKI is the first `mki_len` bytes of `mki`.
-pub struct Settings {
-    pub profile: Profile,
-    pub ssrc: u32,
-    pub mki: [u8; 4],
-    pub mki_len: usize,
-}
-
-// What a packet is protected under.
-pub struct Session {
-    pub settings: Settings,
-    pub media: SessionKeys,
-    pub control: SessionKeys,
 }
 
 pub struct Sender {

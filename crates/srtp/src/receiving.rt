@@ -10,11 +10,9 @@ ghost use Rattle.srtp.specs.Calls.{receiveMedia, receiveControl};
 ghost use Rattle.srtp.specs.Outcomes.{ReceiverShows};
 ghost use Rattle.srtp.specs.ReceiverSteps.{judgedAs, addressRows, replayRows, mediaAtVerdict, controlAtVerdict, mediaIndexVerdict, mediaVerdict, controlVerdict};
 use crate::Answer;
-use crate::Profile;
 use crate::Receiver;
 use crate::ReceiverAfter;
 use crate::Refusal;
-use crate::Settings;
 use replay::index::Estimate;
 use replay::index::Highest;
 use replay::index::MAX_CONTROL_PACKETS;
@@ -23,6 +21,8 @@ use replay::window::Verdict;
 use replay::window::Window;
 use rtp::SrtcpLayout;
 use rtp::SrtpLayout;
+use session::Profile;
+use session::Settings;
 use transforms::SessionKeys;
 
 // What some rows of the table say: none holds, or the first that does.
@@ -94,25 +94,23 @@ fn is_control_tag(keys: SessionKeys, authenticated: &[u8], tag: &[u8]) -> bool
     octets::same(tag, &whole[..n])
 }
 
-impl Settings {
-    // STREAM, ROOM and KEY of a packet with this SSRC and MKI that would give `len` bytes.
-    fn judge_address(self, ssrc: u32, len: usize, room: usize, mki: &[u8]) -> Judged
-        requires { ⌜ self .«mki_len» ≤ 4 ⌝ }
-        ensures { λ r. ⌜ r ≡ judgedAs (judged (addressRows self ssrc len room (now (mki .entry)))) ⌝ }
-    {
-        if ssrc != self.ssrc {
-            return Judged::Stops(Refusal::Stream);
-        }
-        if room < len {
-            return Judged::Stops(Refusal::Room);
-        }
-        let own = self.mki;
-        let n = self.mki_len;
-        if !octets::same(mki, &own[..n]) {
-            return Judged::Stops(Refusal::Key);
-        }
-        Judged::Passes
+// STREAM, ROOM and KEY of a packet with this SSRC and MKI that would give `len` bytes.
+fn judge_address(settings: Settings, ssrc: u32, len: usize, room: usize, mki: &[u8]) -> Judged
+    requires { ⌜ settings .«mki_len» ≤ 4 ⌝ }
+    ensures { λ r. ⌜ r ≡ judgedAs (judged (addressRows settings ssrc len room (now (mki .entry)))) ⌝ }
+{
+    if ssrc != settings.ssrc {
+        return Judged::Stops(Refusal::Stream);
     }
+    if room < len {
+        return Judged::Stops(Refusal::Room);
+    }
+    let own = settings.mki;
+    let n = settings.mki_len;
+    if !octets::same(mki, &own[..n]) {
+        return Judged::Stops(Refusal::Key);
+    }
+    Judged::Passes
 }
 
 impl Receiver {
@@ -160,7 +158,7 @@ impl Receiver {
         else {
             return MediaVerdict::Stops(Refusal::Shape);
         };
-        let address = settings.judge_address(ssrc, mki, room, &packet[mki..tag]);
+        let address = judge_address(settings, ssrc, mki, room, &packet[mki..tag]);
         if let Judged::Stops(refusal) = address {
             return MediaVerdict::Stops(refusal);
         }
@@ -243,7 +241,7 @@ impl Receiver {
         else {
             return ControlVerdict::Stops(Refusal::Shape);
         };
-        let address = settings.judge_address(ssrc, word, room, &packet[mki..tag]);
+        let address = judge_address(settings, ssrc, word, room, &packet[mki..tag]);
         if let Judged::Stops(refusal) = address {
             return ControlVerdict::Stops(refusal);
         }

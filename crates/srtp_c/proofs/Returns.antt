@@ -16,7 +16,7 @@ use Rattle.srtp.specs.declared.Answer.the-variants.{Sent, Refused}
 use Rattle.srtp.specs.declared.LastNumber.{LastNumber}
 use Rattle.srtp.specs.declared.Refusal.{Refusal}
 use Rattle.srtp.specs.declared.Refusal.the-variants.{Setup}
-use Rattle.srtp.specs.declared.Session as core-session
+use Rattle.session.specs.declared.Session as core-session
 use Rattle.srtp.specs.declared.Sender as core-sender
 use Rattle.srtp.specs.declared.Receiver as core-receiver
 use Rattle.srtp.specs.declared.SenderSetUp as core-sender-set-up

@@ -12,7 +12,7 @@ use Rattle.replay.specs.declared.window.Window as core-window
 use Rattle.transforms.specs.declared.SessionKeys.{SessionKeys}
 use Rattle.transforms.specs.declared.Cipher.{Cipher}
 use Rattle.transforms.specs.declared.Cipher.the-variants.{Aes, Null}
-use Rattle.srtp.specs.declared.Session as core-session
+use Rattle.session.specs.declared.Session as core-session
 use Rattle.srtp.specs.declared.Sender as core-sender
 use Rattle.srtp.specs.declared.Receiver as core-receiver
 use Rattle.srtp.specs.Contexts.{closedSender, closedReceiver}

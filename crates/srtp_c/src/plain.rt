@@ -110,19 +110,7 @@ fn highest_index(highest: Highest) -> u64
 pub(crate) fn number_of(refusal: Refusal) -> u32
     ensures { λ r. ⌜ r ≡ numberOf refusal ⌝ }
 {
-    match refusal {
-        Refusal::Setup => 1,
-        Refusal::Long => 2,
-        Refusal::Shape => 3,
-        Refusal::Stream => 4,
-        Refusal::Room => 5,
-        Refusal::Key => 6,
-        Refusal::Order => 7,
-        Refusal::Spent => 8,
-        Refusal::Old => 9,
-        Refusal::Repeat => 10,
-        Refusal::Forged => 11,
-    }
+    refusal.number() as u32
 }
 
 // ---- keys and sessions
@@ -189,16 +177,16 @@ impl Keys {
 }
 
 impl Session {
-    fn to_core(self) -> srtp::Session
+    fn to_core(self) -> session::Session
         ensures { λ r. ⌜ r ≡ sessionOf self ⌝ }
     {
         let cipher = cipher_of(self.cipher);
         let mki = self.mki;
         let media = self.media;
         let control = self.control;
-        srtp::Session {
-            settings: srtp::Settings {
-                profile: srtp::Profile {
+        session::Session {
+            settings: session::Settings {
+                profile: session::Profile {
                     cipher,
                     tag_len: self.tag_len,
                 },
@@ -211,7 +199,7 @@ impl Session {
         }
     }
 
-    fn from_core(session: srtp::Session) -> Session
+    fn from_core(session: session::Session) -> Session
         ensures { λ r. ⌜ r ≡ plainSession session ⌝ }
     {
         let settings = session.settings;

@@ -11,7 +11,7 @@ use lib.ListN.{length, take, drop, getD, drop-of-length-le}
 use lib.Seq.{drop-cons}
 use Rattle.rtp.proofs.AnswerLaws.{both}
 use Rattle.srtp.specs.Contexts.{closedSender, closedReceiver, setUpSender, setUpReceiver}
-use Rattle.srtp.specs.SetUps.{SetUp}
+use Rattle.session.specs.SetUps.{SetUp}
 use Rattle.srtp.specs.declared.LastNumber.{LastNumber}
 use Rattle.srtp.specs.declared.LastNumber.the-variants as last
 use Rattle.srtp.specs.declared.Receiver.{Receiver}

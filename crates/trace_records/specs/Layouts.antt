@@ -8,7 +8,7 @@ use lib.ListN.{length, take, drop, getD}
 use Rattle.octets.specs.BigEndian.{fromBytes}
 use Rattle.transforms.specs.declared.Cipher.{Cipher}
 use Rattle.transforms.specs.declared.Cipher.the-variants.{Null, Aes}
-use Rattle.srtp.specs.SetUps.{SetUp}
+use Rattle.session.specs.SetUps.{SetUp}
 use Rattle.srtp.specs.declared.LastNumber.{LastNumber}
 use Rattle.srtp.specs.declared.LastNumber.the-variants as last
 use Rattle.trace_records.specs.declared.setups.CipherField.{CipherField}

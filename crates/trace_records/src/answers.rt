@@ -4,7 +4,6 @@ ghost use mathlib.Core.List.{[], _∷_};
 ghost use Prim.Native.Nat.{_≤_, _<_, _^_};
 ghost use lib.ListN.{length};
 ghost use Rattle.octets.specs.Buffer.{over};
-ghost use Rattle.srtp.specs.Refusals.{numberOf};
 ghost use Rattle.trace_records.specs.Answers.{headBytes, callHead, setUpHead};
 ghost use Rattle.trace_records.specs.Records.{reply, misfit, Shows};
 use crate::Answered;
@@ -12,27 +11,7 @@ use crate::Contexts;
 use crate::HEAD_LEN;
 use crate::Head;
 use srtp::Answer;
-use srtp::Refusal;
 use srtp::SetUpAnswer;
-
-// A refusal's number in the table.
-fn number_of(refusal: Refusal) -> u8
-    ensures { λ r. ⌜ r ≡ numberOf refusal ⌝ }
-{
-    match refusal {
-        Refusal::Setup => 1,
-        Refusal::Long => 2,
-        Refusal::Shape => 3,
-        Refusal::Stream => 4,
-        Refusal::Room => 5,
-        Refusal::Key => 6,
-        Refusal::Order => 7,
-        Refusal::Spent => 8,
-        Refusal::Old => 9,
-        Refusal::Repeat => 10,
-        Refusal::Forged => 11,
-    }
-}
 
 // The head of the answer to a call.
 pub(crate) fn call_head(answer: Answer) -> Head
@@ -45,7 +24,7 @@ pub(crate) fn call_head(answer: Answer) -> Head
             len,
         },
         Answer::Refused(refusal) => Head {
-            number: number_of(refusal),
+            number: refusal.number(),
             index: 0,
             len: 0,
         },
@@ -63,7 +42,7 @@ pub(crate) fn set_up_head(answer: SetUpAnswer) -> Head
             len: 0,
         },
         SetUpAnswer::Refused(refusal) => Head {
-            number: number_of(refusal),
+            number: refusal.number(),
             index: 0,
             len: 0,
         },

@@ -1,7 +1,8 @@
 use borrow.Author.Needs.{needs}
 use lib.ListN.{length}
 use denote.Ref.{now}
-use Rattle.srtp.proofs.SetUpReturns.{sizes, receiver-refused, receiver-ready}
+use Rattle.session.proofs.SetUpLaws.{sizes}
+use Rattle.srtp.proofs.SetUpReturns.{receiver-refused, receiver-ready}
 use Rattle.srtp.proofs.Receiver.set_up.Statement.{statement}
 use Rattle.srtp.proofs.Receiver.set_up.Tie as tie
 

@@ -1,7 +1,8 @@
 use borrow.Author.Needs.{needs}
 use lib.ListN.{length}
 use denote.Ref.{now}
-use Rattle.srtp.proofs.SetUpReturns.{sizes, sender-refused, sender-ready}
+use Rattle.session.proofs.SetUpLaws.{sizes}
+use Rattle.srtp.proofs.SetUpReturns.{sender-refused, sender-ready}
 use Rattle.srtp.proofs.Sender.set_up.Statement.{statement}
 use Rattle.srtp.proofs.Sender.set_up.Tie as tie
 

@@ -9,8 +9,8 @@ enum-known-answer c = search needs
 enum-known-answer-2 : tie.Need-enum-known-answer-2
 enum-known-answer-2 c = search needs
 
-number-of-requires : tie.Need-number-of-requires
-number-of-requires c κs = search needs
+number-requires : tie.Need-number-requires
+number-requires c κs = search needs
 
 returns : tie.Need-returns
 returns c = search call-sent
@@ -20,4 +20,4 @@ returns-2 c = search call-refused
 
 pub call-head-spec : {M : Type 1} → statement M
 call-head-spec =
-    tie.close (tie.spec enum-known-answer enum-known-answer-2 number-of-requires returns returns-2)
+    tie.close (tie.spec enum-known-answer enum-known-answer-2 number-requires returns returns-2)

@@ -10,8 +10,8 @@ enum-told c = search needs
 enum-known-answer : tie.Need-enum-known-answer
 enum-known-answer c = search needs
 
-number-of-requires : tie.Need-number-of-requires
-number-of-requires c κs = search needs
+number-requires : tie.Need-number-requires
+number-requires c κs = search needs
 
 returns : tie.Need-returns
 returns c = (search set-up-ready, refl)
@@ -21,4 +21,4 @@ returns-2 c = (search set-up-refused, refl)
 
 pub set-up-head-spec : {M : Type 1} → statement M
 set-up-head-spec =
-    tie.close (tie.spec enum-told enum-known-answer number-of-requires returns returns-2)
+    tie.close (tie.spec enum-told enum-known-answer number-requires returns returns-2)

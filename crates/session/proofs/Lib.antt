@@ -1,0 +1,5 @@
+pub mod SessionLaws
+pub mod SetUpLaws
+mod SetUpReturns
+mod CipherReturns
+mod PacketReturns

@@ -1,0 +1,21 @@
+-- What the list of set-up says of the lengths that it is given. Assumes nothing.
+use mathlib.Core.Bool.{Bool, false, not, _&&_, _||_}
+use mathlib.Core.Path.{_≡_, sym, _∙_}
+use Prim.Native.Nat.{ℕ, _≤_}
+use borrow.Author.Tests.{eqb-true, leb-true, not-false}
+use lib.Dec.{eqb, leb}
+use Rattle.rtp.proofs.AnswerLaws.{both}
+
+module _ (k s m t : ℕ) where
+  abbrev pub lengths : Bool
+  lengths = leb m 4 && (eqb t 4 || eqb t 10)
+
+  abbrev pub all : Bool
+  all = eqb k 16 && (eqb s 14 && lengths)
+
+  pub sizes : (b : Bool) → b ≡ all → not b ≡ false → (k ≡ 16) × (s ≡ 14) × (m ≤ 4)
+  sizes b e h =
+      let x = both (eqb k 16) (eqb s 14 && lengths) (sym e ∙ not-false b h) in
+      let y = both (eqb s 14) lengths (x .1) in
+      let z = both (leb m 4) (eqb t 4 || eqb t 10) (y .1) in
+      (eqb-true k 16 (x .0), eqb-true s 14 (y .0), leb-true m 4 (z .0))

@@ -1,0 +1,72 @@
+-- RFC 3711 in the terms of the set-up alone (01, 'Setting up'; 'one set-up' is one value of `SetUp`). Assumes nothing.
+use Prim.Native.Nat.{ℕ}
+use mathlib.Core.Bool.{Bool, _&&_, _||_}
+use mathlib.Core.List.{List}
+use lib.Dec.{eqb, leb}
+use lib.ListN.{length, replicate}
+use Rattle.octets.specs.Buffer.{over}
+use Rattle.transforms.specs.declared.Cipher.{Cipher}
+use Rattle.transforms.specs.declared.Cipher.the-variants.{Null}
+use Rattle.transforms.specs.declared.SessionKeys.{SessionKeys}
+use Rattle.transforms.specs.KeyDerivation.{mediaLabel, controlLabel, sessionKeys}
+use Rattle.session.specs.declared.Settings.{Settings}
+use Rattle.session.specs.declared.Session.{Session}
+use Rattle.session.specs.Packets.{srtp, srtcp}
+
+-- what set-up is given, sender and receiver alike
+pub record SetUp : Type 0 where
+  pub ssrc : ℕ
+  pub masterKey : List ℕ
+  pub masterSalt : List ℕ
+  pub mki : List ℕ
+  pub tagLength : ℕ
+  pub cipher : Cipher
+
+abbrev pub settingsOf : SetUp → Settings
+settingsOf u =
+    record {
+      profile = record { cipher = u .cipher; «tag_len» = u .tagLength };
+      ssrc = u .ssrc;
+      mki = over (u .mki) (replicate 4 0);
+      «mki_len» = length (u .mki);
+    }
+
+-- an MKI of 0 to 4 bytes, a media tag of 4 or 10: the test of set-up and of every context value
+abbrev pub settingsListed : Settings → Bool
+settingsListed s = leb (s .«mki_len») 4 && (eqb (s .profile .«tag_len») 4 || eqb (s .profile .«tag_len») 10)
+
+-- and a master key of 16 bytes and a master salt of 14
+unfoldable pub listed : SetUp → Bool
+listed u = eqb (length (u .masterKey)) 16 && (eqb (length (u .masterSalt)) 14 && settingsListed (settingsOf u))
+
+unfoldable pub sessionOf : SetUp → Session
+sessionOf u =
+    record {
+      settings = settingsOf u;
+      media = sessionKeys mediaLabel (u .masterKey) (u .masterSalt);
+      control = sessionKeys controlLabel (u .masterKey) (u .masterSalt);
+    }
+
+-- ---- the session of the closed contexts: a tag of length 0 is refused by every call
+abbrev pub noKeys : SessionKeys
+noKeys =
+    record {
+      round = replicate 44 0;
+      tag = record { inner = record { a = 0; b = 0; c = 0; d = 0; e = 0 }; outer = record { a = 0; b = 0; c = 0; d = 0; e = 0 } };
+      salt = replicate 14 0;
+    }
+
+abbrev pub closedSession : Session
+closedSession =
+    record {
+      settings = record { profile = record { cipher = Null; «tag_len» = 0 }; ssrc = 0; mki = replicate 4 0; «mki_len» = 0 };
+      media = noKeys;
+      control = noKeys;
+    }
+
+-- ---- what RFC 3711 makes of a plain packet at index i
+unfoldable pub protectMedia : SetUp → (packet : List ℕ) → (index : ℕ) → List ℕ
+protectMedia u = srtp (sessionOf u)
+
+unfoldable pub protectControl : SetUp → (e : Bool) → (packet : List ℕ) → (index : ℕ) → List ℕ
+protectControl u = srtcp (sessionOf u)

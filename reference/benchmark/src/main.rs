@@ -1,0 +1,22 @@
+//! The proved library, through its boundary, timed beside ordinary Rust and, where it is built
+//! in, libsrtp2. What is printed is the part of docs/BENCHMARK.md that holds the figures.
+//!
+//! Every contender's bytes are compared before anything is timed; where they differ, it stops.
+
+mod clock;
+mod digest;
+mod implementations;
+mod media;
+mod packets;
+mod refusals;
+mod report;
+mod rounds;
+mod statistics;
+
+fn main() {
+    report::print_conditions();
+    media::print_main_table();
+    media::print_sizes();
+    refusals::print();
+    digest::print();
+}

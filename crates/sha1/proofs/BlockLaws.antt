@@ -103,6 +103,10 @@ module _ (q i : ℕ) (h : i < 20) where
   unfolding rounds
   next-round w s v e = rw (add-one, e) (sym (round-group (getD w (20 * q + i) 0) (rounds w (20 * q) i s)))
 
+-- the constant of group n
+pub kt-of : (q n : ℕ) → q ≡ n → kt (20 * n) ≡ kt (20 * q)
+kt-of q n e = ap (λ (k : ℕ). kt (20 * k)) (sym e)
+
 -- past the third group
 module _ (q : ℕ) (a : q ≡ 0 → ⊥) (b : q ≡ 1 → ⊥) (d : q ≡ 2 → ⊥) where
   far : 60 ≤ 20 * q

@@ -27,11 +27,12 @@ enum-known-header-len c = search needs
 enum-told-2 : tie.Need-enum-told-2
 enum-told-2 c = search needs
 
-returns-2 : tie.Need-returns-2
-returns-2 c = search srtp-no-header
-
+-- What is answered stands before the refusal: with a header that runs into the MKI this, and not the refusal, is false.
 returns-3 : tie.Need-returns-3
 returns-3 c = search srtp-found
+
+returns-2 : tie.Need-returns-2
+returns-2 c = search srtp-no-header
 
 pub read-srtp-spec : {M : Type 1} → statement M
 read-srtp-spec =

@@ -1,5 +1,5 @@
 use borrow.Author.Needs.{needs}
-use Rattle.sha1.specs.Hmac.{keyState}
+use Rattle.sha1.proofs.HmacLaws.{key-made}
 use Rattle.sha1.proofs.key_state.Statement.{statement}
 use Rattle.sha1.proofs.key_state.Tie as tie
 
@@ -28,8 +28,10 @@ compress-requires-2 : tie.Need-compress-requires-2
 compress-requires-2 c κs = search needs
 
 returns : tie.Need-returns
-unfolding keyState
-returns c = cc
+returns c =
+    let p = c .before .before .before .before .before .before in
+    key-made (p .before .before .args .k) _ _ _ _ _ _ (p .before .xor-pad .ensures) (p .xor-pad2 .ensures) (c .before .before .before .before .before .initial .ensures) (c .before .before .initial2 .ensures)
+    (c .before .before .before .compress .ensures) (c .compress2 .ensures)
 
 pub key-state-spec : {M : Type 1} → statement M
 key-state-spec =

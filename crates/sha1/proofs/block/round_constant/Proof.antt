@@ -1,19 +1,19 @@
 use Rattle.sha1.specs.Sha1.{kt}
-use Rattle.sha1.proofs.BlockLaws.{kt-far}
+use Rattle.sha1.proofs.BlockLaws.{kt-of, kt-far}
 use Rattle.sha1.proofs.block.round_constant.Statement.{statement}
 use Rattle.sha1.proofs.block.round_constant.Tie as tie
 
 returns : tie.Need-returns
 unfolding kt
-returns c = rw (c .match .keys1)
+returns c = kt-of (c .before .args .q) 0 (c .match .keys1)
 
 returns-2 : tie.Need-returns-2
 unfolding kt
-returns-2 c = rw (c .match .keys2)
+returns-2 c = kt-of (c .before .args .q) 1 (c .match .keys2)
 
 returns-3 : tie.Need-returns-3
 unfolding kt
-returns-3 c = rw (c .match .keys3)
+returns-3 c = kt-of (c .before .args .q) 2 (c .match .keys3)
 
 returns-4 : tie.Need-returns-4
 returns-4 c =

@@ -1,5 +1,7 @@
--- `Window::mark` meets its contract: each way out by its law. Assumes nothing.
+-- `Window::mark` meets its contract: each way out by its law. Bounds go to omega where a test that is off by one is to fail at the
+-- number that shows it. Assumes nothing.
 use Rattle.replay.proofs.WindowReturns.{mark-first, mark-far, mark-ahead, mark-old, mark-behind}
+use native.Mathlib.Omega.{arith}
 use borrow.Author.Needs.{needs}
 use Rattle.replay.proofs.window.Window.mark.Statement.{statement}
 use Rattle.replay.proofs.window.Window.mark.Tie as tie
@@ -17,7 +19,8 @@ sub-rise : tie.Need-sub-rise
 sub-rise c = search needs
 
 returns-2 : tie.Need-returns-2
-returns-2 c = search mark-far
+returns-2 c =
+    mark-far _ _ _ (c .before .before .before .highest .given .1) (omega arith) (omega arith)
 
 shl-t12 : tie.Need-shl-t12
 shl-t12 c = search needs

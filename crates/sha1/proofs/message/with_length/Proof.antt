@@ -1,0 +1,19 @@
+-- Rattle proves this with no file. With one, a wrong length is an error at this place, and not only in the functions that call it.
+use borrow.Author.Needs.{needs}
+use Rattle.sha1.proofs.message.with_length.Statement.{statement}
+use Rattle.sha1.proofs.message.with_length.Tie as tie
+
+mul-bits : tie.Need-mul-bits
+mul-bits c = search needs
+
+slice-aggregate-store64 : tie.Need-slice-aggregate-store64
+slice-aggregate-store64 c = search needs
+
+store64-requires : tie.Need-store64-requires
+store64-requires c κs = search needs
+
+returns : tie.Need-returns
+returns c = c .before .store64 .ensures
+
+pub with-length-spec : {M : Type 1} → statement M
+with-length-spec = tie.close (tie.spec mul-bits slice-aggregate-store64 store64-requires returns)

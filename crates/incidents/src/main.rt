@@ -1,6 +1,7 @@
 // Replays the losses that this library was built against, and prints the answer to each call in words.
 mod cases;
 mod damage;
+mod ends;
 mod packet;
 mod repeats;
 mod rollover;
@@ -11,4 +12,5 @@ fn main() {
     rollover::run();
     damage::run();
     cases::run();
+    ends::run();
 }

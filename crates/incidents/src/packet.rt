@@ -75,7 +75,7 @@ pub fn receive(r: Receiver, number: u16, packet: &[u8; 26]) -> Receiver {
     };
     let p = plain(number);
     if !octets::same(&p, &out) {
-        say::line(b"  but it came out as another packet");
+        words::line(b"  but it came out as another packet");
     }
     after.next
 }

@@ -1,9 +1,8 @@
 // Text goes on while the sequence number rolls over, with late packets on both sides of it: all are let in, each at its own index.
 use crate::packet;
-use crate::say;
 
 pub fn run() {
-    say::line(b"the sequence number rolls over");
+    words::line(b"the sequence number rolls over");
     let s = packet::sender();
     let mut a = [0u8; 26];
     let mut b = [0u8; 26];

@@ -1,55 +1,28 @@
-// Answers in words.
+// Answers in words, behind the call and the number of its packet.
 use srtp::Answer;
-use srtp::Refusal;
-
-pub fn line(text: &[u8]) {
-    io::write_all(1, text);
-    io::write_all(1, b"\n");
-}
 
 pub fn sent(number: u16, answer: Answer) {
-    io::write_all(1, b"  send number ");
-    io::print_decimal(1, number as u64);
-    match answer {
-        Answer::Sent { len, index } => {
-            io::write_all(1, b": ");
-            io::print_decimal(1, len as u64);
-            io::write_all(1, b" bytes at index ");
-            io::print_decimal(1, index);
-            io::write_all(1, b"\n");
-        }
-        Answer::Refused(refusal) => refused(refusal),
-    }
+    words::text(b"  send number ");
+    words::number(number as u64);
+    said(b"sent", answer);
 }
 
 pub fn received(number: u16, answer: Answer) {
-    io::write_all(1, b"  receive number ");
-    io::print_decimal(1, number as u64);
-    match answer {
-        Answer::Sent { len, index } => {
-            io::write_all(1, b": let in, ");
-            io::print_decimal(1, len as u64);
-            io::write_all(1, b" bytes at index ");
-            io::print_decimal(1, index);
-            io::write_all(1, b"\n");
-        }
-        Answer::Refused(refusal) => refused(refusal),
-    }
+    words::text(b"  receive number ");
+    words::number(number as u64);
+    said(b"let in", answer);
 }
 
-fn refused(refusal: Refusal) {
-    io::write_all(1, b": refused as ");
-    match refusal {
-        Refusal::Setup => line(b"SETUP"),
-        Refusal::Long => line(b"LONG"),
-        Refusal::Shape => line(b"SHAPE"),
-        Refusal::Stream => line(b"STREAM"),
-        Refusal::Room => line(b"ROOM"),
-        Refusal::Key => line(b"KEY"),
-        Refusal::Order => line(b"ORDER"),
-        Refusal::Spent => line(b"SPENT"),
-        Refusal::Old => line(b"OLD"),
-        Refusal::Repeat => line(b"REPEAT"),
-        Refusal::Forged => line(b"FORGED"),
+// A control packet has no number.
+pub fn sent_control(answer: Answer) {
+    words::text(b"  send control");
+    said(b"sent", answer);
+}
+
+fn said(done: &[u8], answer: Answer) {
+    words::text(b": ");
+    match answer {
+        Answer::Sent { len, index } => words::finished(done, len, index),
+        Answer::Refused(refusal) => words::refused(refusal),
     }
 }

@@ -1,10 +1,11 @@
-//! Random traces from a seed.
+//! Traces: random ones from a seed, and the example.
 //!
-//! A trace is a row of scenes. A scene sets up a sender and a receiver on one link and then
+//! A random trace is a row of scenes. A scene sets up a sender and a receiver on one link and then
 //! mixes good packets with lost, late, repeated, damaged and strange ones. The maker answers its
 //! own records as it goes, so that it knows each context and can aim at the limits.
 
 mod damage;
+mod evening;
 mod misfit;
 mod plain;
 mod recorder;
@@ -13,6 +14,7 @@ mod set_ups;
 mod sweep;
 mod targets;
 
+pub use evening::evening;
 pub use sweep::set_up_sweep;
 
 use crate::random::Random;

@@ -1,0 +1,2 @@
+pub mod ReadingLaws
+mod Returns

@@ -56,11 +56,11 @@ fn the_stored_words_say_what_the_reference_answers() {
         assert!(matches, "{line}\n{start}");
     }
     let count = |word: &str| told.iter().filter(|line| line.contains(word)).count();
-    let (sent, let_in, refused) = (count(": sent,"), count(": let in,"), count(": refused:"));
+    let (sent, accepted, refused) = (count(": sent,"), count(": let in,"), count(": refused:"));
     let total = answers.len();
     assert_eq!(
         *sum,
-        format!("sum of {total} answers: {sent} sent, {let_in} let in, {refused} refused")
+        format!("sum of {total} answers: {sent} sent, {accepted} let in, {refused} refused")
     );
 }
 

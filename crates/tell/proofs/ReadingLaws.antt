@@ -12,9 +12,9 @@ use Rattle.srtp.specs.declared.Answer.the-variants as answer
 use Rattle.srtp.specs.declared.Refusal.{Refusal}
 use Rattle.srtp.specs.declared.Refusal.the-variants.{Setup, Long, Shape, Stream, Room, Key, Order, Spent, Old, Repeat, Forged}
 use Rattle.srtp.specs.declared.SetUpAnswer.the-variants as setup
-use Rattle.tell.proofs.Returns.{named, told-misfit, told-refused, told-ready, told-sent, told-let-in}
+use Rattle.tell.proofs.Returns.{named, told-misfit, told-refused, told-ready, told-sent, told-accepted}
 use Rattle.tell.specs.Reading.{frontOf, toldOf}
-use Rattle.tell.specs.declared.reading.Told.the-variants.{Ready, Sent, LetIn, Refused, Misfit}
+use Rattle.tell.specs.declared.reading.Told.the-variants.{Ready, Sent, Accepted, Refused, Misfit}
 use Rattle.trace_records.specs.Answers.{headBytes, answerBytes, numberAlone, misfitHead, callHead, setUpHead}
 use Rattle.trace_records.specs.declared.Head.{Head}
 
@@ -43,8 +43,8 @@ module _ (op : ℕ) where
   pub sent-told : (n i : ℕ) → 3 ≤ op → op < 5 → toldOf op (callHead (answer.Sent n i)) ≡ Sent n i
   sent-told n i a b = sym (told-sent op (callHead (answer.Sent n i)) finished (omega arith) (omega arith) (omega arith) a b)
 
-  pub let-in-told : (n i : ℕ) → 5 ≤ op → op ≤ 6 → toldOf op (callHead (answer.Sent n i)) ≡ LetIn n i
-  let-in-told n i a b = sym (told-let-in op (callHead (answer.Sent n i)) finished (omega arith) b (omega arith) (omega arith) a)
+  pub accepted-told : (n i : ℕ) → 5 ≤ op → op ≤ 6 → toldOf op (callHead (answer.Sent n i)) ≡ Accepted n i
+  accepted-told n i a b = sym (told-accepted op (callHead (answer.Sent n i)) finished (omega arith) b (omega arith) (omega arith) a)
 
 -- of a refusal of a set-up, `setUpHead`, or of a call, `callHead`
 in-table : (r : Refusal) → (0 < numberOf r) × (numberOf r ≤ 11)

@@ -11,7 +11,7 @@ use Rattle.srtp.specs.declared.Refusal.the-variants.{Setup, Long, Shape, Stream
 use Rattle.tell.specs.Reading.{frontOf, refusalOf, finished, toldOf}
 use Rattle.tell.specs.Sums.{oneMore, counted}
 use Rattle.tell.specs.declared.reading.Told.{Told}
-use Rattle.tell.specs.declared.reading.Told.the-variants.{Ready, Sent, LetIn, Refused, Misfit, Unknown}
+use Rattle.tell.specs.declared.reading.Told.the-variants.{Ready, Sent, Accepted, Refused, Misfit, Unknown}
 use Rattle.tell.specs.declared.sum.Sum.{Sum}
 use Rattle.trace_records.specs.Layouts.{byteAt, numberAt}
 use Rattle.trace_records.specs.declared.Head.{Head}
@@ -76,9 +76,9 @@ module _ (op : ℕ) (h : Head) where
   told-sent f a b p c d =
       let e : Sent (h .len) (h .index) ≡ finished op h = rw (le-ltb op 3 c, lt-ltb op 5 d) in e ∙ told-finished f a b p
 
-  pub told-let-in : (h .number ≡ 255 → ⊥) → 1 ≤ op → op ≤ 6 → h .number ≤ 0 → 3 ≤ op → 5 ≤ op → LetIn (h .len) (h .index) ≡ toldOf op h
-  told-let-in f a b p c d =
-      let e : LetIn (h .len) (h .index) ≡ finished op h = rw (le-ltb op 3 c, le-ltb op 5 d) in e ∙ told-finished f a b p
+  pub told-accepted : (h .number ≡ 255 → ⊥) → 1 ≤ op → op ≤ 6 → h .number ≤ 0 → 3 ≤ op → 5 ≤ op → Accepted (h .len) (h .index) ≡ toldOf op h
+  told-accepted f a b p c d =
+      let e : Accepted (h .len) (h .index) ≡ finished op h = rw (le-ltb op 3 c, le-ltb op 5 d) in e ∙ told-finished f a b p
 
 -- ---- one_more
 pub at-top : (n : ℕ) → n ≡ 18446744073709551615 → n ≡ oneMore n
@@ -90,22 +90,22 @@ below-top n h = rw (ne-eqb n 18446744073709551615 h)
 -- ---- Sum::with
 module _ (s : Sum) (t : Told) (a : ℕ) (e : a ≡ oneMore (s .answers)) where
   pub with-sent : (n i m : ℕ) → t ≡ Sent n i → m ≡ oneMore (s .sent)
-      → record { answers = a; sent = m; «let_in» = s .«let_in»; refused = s .refused } ≡ counted s t
+      → record { answers = a; sent = m; accepted = s .accepted; refused = s .refused } ≡ counted s t
   unfolding counted
   with-sent n i m f g = rw (f, e, g)
 
-  pub with-let-in : (n i m : ℕ) → t ≡ LetIn n i → m ≡ oneMore (s .«let_in»)
-      → record { answers = a; sent = s .sent; «let_in» = m; refused = s .refused } ≡ counted s t
+  pub with-accepted : (n i m : ℕ) → t ≡ Accepted n i → m ≡ oneMore (s .accepted)
+      → record { answers = a; sent = s .sent; accepted = m; refused = s .refused } ≡ counted s t
   unfolding counted
-  with-let-in n i m f g = rw (f, e, g)
+  with-accepted n i m f g = rw (f, e, g)
 
   pub with-refused : (r : Refusal) (m : ℕ) → t ≡ Refused r → m ≡ oneMore (s .refused)
-      → record { answers = a; sent = s .sent; «let_in» = s .«let_in»; refused = m } ≡ counted s t
+      → record { answers = a; sent = s .sent; accepted = s .accepted; refused = m } ≡ counted s t
   unfolding counted
   with-refused r m f g = rw (f, e, g)
 
   abbrev Alone : Type 0
-  Alone = record { answers = a; sent = s .sent; «let_in» = s .«let_in»; refused = s .refused } ≡ counted s t
+  Alone = record { answers = a; sent = s .sent; accepted = s .accepted; refused = s .refused } ≡ counted s t
 
   pub with-ready : t ≡ Ready → Alone
   unfolding counted

@@ -10,7 +10,7 @@ use Rattle.trace_records.specs.declared.Head.{Head}
 use Rattle.trace_records.specs.Layouts.{byteAt, numberAt}
 use Rattle.tell.specs.declared.reading.Front.{Front}
 use Rattle.tell.specs.declared.reading.Told.{Told}
-use Rattle.tell.specs.declared.reading.Told.the-variants.{Ready, Sent, LetIn, Refused, Misfit, Unknown}
+use Rattle.tell.specs.declared.reading.Told.the-variants.{Ready, Sent, Accepted, Refused, Misfit, Unknown}
 
 -- op (1), refusal number, 0 or 255 (1), index (8), length (2), size of the buffer (2)
 unfoldable pub frontOf : List ℕ → Front
@@ -32,7 +32,7 @@ refusalOf n =
 
 -- ops 1 and 2 set up, 3 and 4 send, 5 and 6 receive
 abbrev pub finished : (op : ℕ) → Head → Told
-finished op h = cond (ltb op 3) Ready (cond (ltb op 5) (Sent (h .len) (h .index)) (LetIn (h .len) (h .index)))
+finished op h = cond (ltb op 3) Ready (cond (ltb op 5) (Sent (h .len) (h .index)) (Accepted (h .len) (h .index)))
 
 unfoldable pub toldOf : (op : ℕ) → Head → Told
 toldOf op h =

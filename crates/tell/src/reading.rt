@@ -18,7 +18,8 @@ pub enum Told {
     // A set-up gave a context.
     Ready,
     Sent { len: usize, index: u64 },
-    LetIn { len: usize, index: u64 },
+    // What the link's rules call let in.
+    Accepted { len: usize, index: u64 },
     Refused(Refusal),
     // The record did not fit.
     Misfit,
@@ -87,5 +88,5 @@ pub fn told_of(op: u8, head: Head) -> Told
     if op < 5 {
         return Told::Sent { len, index };
     }
-    Told::LetIn { len, index }
+    Told::Accepted { len, index }
 }

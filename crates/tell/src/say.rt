@@ -11,7 +11,7 @@ pub fn answer(record: u64, op: u8, told: Told) {
     match told {
         Told::Ready => words::line(b"ready"),
         Told::Sent { len, index } => words::finished(b"sent", len, index),
-        Told::LetIn { len, index } => words::finished(b"let in", len, index),
+        Told::Accepted { len, index } => words::finished(b"let in", len, index),
         Told::Refused(refusal) => words::refused(refusal),
         Told::Misfit => words::line(b"not a record of the format"),
         Told::Unknown => words::line(b"not an answer of the format"),
@@ -40,7 +40,7 @@ pub fn sum(s: Sum) {
     words::text(b" answers: ");
     words::number(s.sent);
     words::text(b" sent, ");
-    words::number(s.let_in);
+    words::number(s.accepted);
     words::text(b" let in, ");
     words::number(s.refused);
     words::line(b" refused");

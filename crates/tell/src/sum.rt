@@ -6,7 +6,7 @@ use crate::reading::Told;
 pub struct Sum {
     pub answers: u64,
     pub sent: u64,
-    pub let_in: u64,
+    pub accepted: u64,
     pub refused: u64,
 }
 
@@ -27,7 +27,7 @@ impl Sum {
         Sum {
             answers: 0,
             sent: 0,
-            let_in: 0,
+            accepted: 0,
             refused: 0,
         }
     }
@@ -45,9 +45,9 @@ impl Sum {
                 sum.sent = sent;
                 sum
             }
-            Told::LetIn { len: _, index: _ } => {
-                let let_in = one_more(self.let_in);
-                sum.let_in = let_in;
+            Told::Accepted { len: _, index: _ } => {
+                let accepted = one_more(self.accepted);
+                sum.accepted = accepted;
                 sum
             }
             Told::Refused(_) => {

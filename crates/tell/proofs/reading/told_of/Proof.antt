@@ -1,4 +1,4 @@
-use Rattle.tell.proofs.Returns.{told-misfit, told-below, told-above, told-refused, told-ready, told-sent, told-let-in}
+use Rattle.tell.proofs.Returns.{told-misfit, told-below, told-above, told-refused, told-ready, told-sent, told-accepted}
 use borrow.Author.Needs.{needs}
 use Rattle.tell.proofs.reading.told_of.Statement.{statement}
 use Rattle.tell.proofs.reading.told_of.Tie as tie
@@ -25,7 +25,7 @@ returns-6 : tie.Need-returns-6
 returns-6 c = search told-sent
 
 returns-7 : tie.Need-returns-7
-returns-7 c = search told-let-in
+returns-7 c = search told-accepted
 
 pub told-of-spec : {M : Type 1} → statement M
 told-of-spec =

@@ -1,5 +1,5 @@
 use borrow.Author.Needs.{needs}
-use Rattle.tell.proofs.Returns.{with-sent, with-let-in, with-refused, with-ready, with-misfit, with-unknown}
+use Rattle.tell.proofs.Returns.{with-sent, with-accepted, with-refused, with-ready, with-misfit, with-unknown}
 use Rattle.tell.proofs.sum.Sum.with.Statement.{statement}
 use Rattle.tell.proofs.sum.Sum.with.Tie as tie
 
@@ -37,7 +37,7 @@ returns : tie.Need-returns
 returns c = search with-sent
 
 returns-2 : tie.Need-returns-2
-returns-2 c = search with-let-in
+returns-2 c = search with-accepted
 
 returns-3 : tie.Need-returns-3
 returns-3 c = search with-refused

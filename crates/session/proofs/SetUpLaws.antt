@@ -5,17 +5,11 @@ use Prim.Native.Nat.{ℕ, _≤_}
 use borrow.Author.Tests.{eqb-true, leb-true, not-false}
 use lib.Dec.{eqb, leb}
 use Rattle.rtp.proofs.AnswerLaws.{both}
+use Rattle.session.specs.SetUps.{lengthsListed, setUpListed}
 
-module _ (k s m t : ℕ) where
-  abbrev pub lengths : Bool
-  lengths = leb m 4 && (eqb t 4 || eqb t 10)
-
-  abbrev pub all : Bool
-  all = eqb k 16 && (eqb s 14 && lengths)
-
-  pub sizes : (b : Bool) → b ≡ all → not b ≡ false → (k ≡ 16) × (s ≡ 14) × (m ≤ 4)
-  sizes b e h =
-      let x = both (eqb k 16) (eqb s 14 && lengths) (sym e ∙ not-false b h) in
-      let y = both (eqb s 14) lengths (x .1) in
-      let z = both (leb m 4) (eqb t 4 || eqb t 10) (y .1) in
-      (eqb-true k 16 (x .0), eqb-true s 14 (y .0), leb-true m 4 (z .0))
+pub sizes : (k s m t : ℕ) (b : Bool) → b ≡ setUpListed k s m t → not b ≡ false → (k ≡ 16) × (s ≡ 14) × (m ≤ 4)
+sizes k s m t b e h =
+    let x = both (eqb k 16) (eqb s 14 && lengthsListed m t) (sym e ∙ not-false b h) in
+    let y = both (eqb s 14) (lengthsListed m t) (x .1) in
+    let z = both (leb m 4) (eqb t 4 || eqb t 10) (y .1) in
+    (eqb-true k 16 (x .0), eqb-true s 14 (y .0), leb-true m 4 (z .0))

@@ -1,42 +1,38 @@
 -- One law for each way out of the functions of `src/setup.rt`: what the code leaves there is what the definition says. Assumes nothing.
-use mathlib.Core.Bool.{Bool, true, false, _&&_, _||_}
+use mathlib.Core.Bool.{Bool, true, false}
 use mathlib.Core.List.{List, append-nil}
 use mathlib.Core.Path.{_≡_, _∙_}
 use Prim.Native.Nat.{ℕ, _≤_, _<_}
 use native.Mathlib.Omega.{arith}
 use borrow.Author.Tests.{le-leb, lt-leb, eq-eqb, ne-eqb}
-use lib.Dec.{eqb, leb}
+use lib.Dec.{eqb}
 use lib.ListN.{length, replicate, length-replicate, drop-of-length-le}
 use Rattle.octets.specs.Buffer.{over}
 use Rattle.transforms.specs.KeyDerivation.{mediaLabel, controlLabel, sessionKeys}
 use Rattle.transforms.specs.declared.SessionKeys.{SessionKeys}
-use Rattle.session.specs.SetUps.{SetUp, settingsOf, sessionOf, noKeys, closedSession}
-use Rattle.session.proofs.SetUpLaws.{lengths, all}
+use Rattle.session.specs.SetUps.{SetUp, settingsOf, lengthsListed, setUpListed, sessionOf, noKeys, closedSession}
 
 -- ---- lengths_listed
 module _ (m t : ℕ) where
-  abbrev settings : Bool
-  settings = leb m 4 && (eqb t 4 || eqb t 10)
-
-  pub listed-long : 4 < m → false ≡ settings
+  pub listed-long : 4 < m → false ≡ lengthsListed m t
   listed-long h = rw (lt-leb m 4 h)
 
   module _ (h : m ≤ 4) where
-    pub listed-short : t ≡ 4 → true ≡ settings
+    pub listed-short : t ≡ 4 → true ≡ lengthsListed m t
     listed-short e = rw (le-leb m 4 h, eq-eqb t 4 e)
 
-    pub listed-whole : (t ≡ 4 → ⊥) → eqb t 10 ≡ settings
+    pub listed-whole : (t ≡ 4 → ⊥) → eqb t 10 ≡ lengthsListed m t
     listed-whole e = rw (le-leb m 4 h, ne-eqb t 4 e)
 
 -- ---- Session::set_up_listed
 module _ (k s m t : ℕ) where
-  pub listed-key : (k ≡ 16 → ⊥) → false ≡ all k s m t
+  pub listed-key : (k ≡ 16 → ⊥) → false ≡ setUpListed k s m t
   listed-key h = rw (ne-eqb k 16 h)
 
-  pub listed-salt : k ≡ 16 → (s ≡ 14 → ⊥) → false ≡ all k s m t
+  pub listed-salt : k ≡ 16 → (s ≡ 14 → ⊥) → false ≡ setUpListed k s m t
   listed-salt e h = rw (eq-eqb k 16 e, ne-eqb s 14 h)
 
-  pub listed-rest : k ≡ 16 → s ≡ 14 → (b : Bool) → b ≡ lengths k s m t → b ≡ all k s m t
+  pub listed-rest : k ≡ 16 → s ≡ 14 → (b : Bool) → b ≡ lengthsListed m t → b ≡ setUpListed k s m t
   listed-rest e f b h = rw (eq-eqb k 16 e, eq-eqb s 14 f) h
 
 -- ---- Session::closed

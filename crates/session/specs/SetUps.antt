@@ -31,13 +31,21 @@ settingsOf u =
       «mki_len» = length (u .mki);
     }
 
--- an MKI of 0 to 4 bytes, a media tag of 4 or 10: the test of set-up and of every context value
-abbrev pub settingsListed : Settings → Bool
-settingsListed s = leb (s .«mki_len») 4 && (eqb (s .profile .«tag_len») 4 || eqb (s .profile .«tag_len») 10)
+-- ---- the list of set-up
+-- an MKI of 0 to 4 bytes, a media tag of 4 or 10
+abbrev pub lengthsListed : (mki tag : ℕ) → Bool
+lengthsListed mki tag = leb mki 4 && (eqb tag 4 || eqb tag 10)
 
 -- and a master key of 16 bytes and a master salt of 14
+abbrev pub setUpListed : (key salt mki tag : ℕ) → Bool
+setUpListed key salt mki tag = eqb key 16 && (eqb salt 14 && lengthsListed mki tag)
+
 unfoldable pub listed : SetUp → Bool
-listed u = eqb (length (u .masterKey)) 16 && (eqb (length (u .masterSalt)) 14 && settingsListed (settingsOf u))
+listed u = setUpListed (length (u .masterKey)) (length (u .masterSalt)) (length (u .mki)) (u .tagLength)
+
+-- of a context value, whose keys have no other length
+abbrev pub settingsListed : Settings → Bool
+settingsListed s = lengthsListed (s .«mki_len») (s .profile .«tag_len»)
 
 unfoldable pub sessionOf : SetUp → Session
 sessionOf u =

@@ -1,10 +1,8 @@
 // The settings that set-up lists, and a session from master key and master salt.
 ghost use mathlib.Core.Path.{_≡_};
-ghost use mathlib.Core.Bool.{_&&_, _||_};
 ghost use Prim.Native.Nat.{_≤_};
-ghost use lib.Dec.{eqb, leb};
 ghost use lib.ListN.{length};
-ghost use Rattle.session.specs.SetUps.{SetUp, settingsListed, sessionOf, noKeys, closedSession};
+ghost use Rattle.session.specs.SetUps.{SetUp, lengthsListed, setUpListed, settingsListed, sessionOf, noKeys, closedSession};
 use crate::Profile;
 use crate::Session;
 use crate::Settings;
@@ -15,7 +13,7 @@ use transforms::SessionKeys;
 
 // An MKI of 0 to 4 bytes and a media tag of 4 or 10.
 fn lengths_listed(mki_len: usize, tag_len: usize) -> bool
-    ensures { λ r. ⌜ r ≡ (leb «mki_len» 4 && (eqb «tag_len» 4 || eqb «tag_len» 10)) ⌝ }
+    ensures { λ r. ⌜ r ≡ lengthsListed «mki_len» «tag_len» ⌝ }
 {
     if mki_len > Profile::MAX_MKI_LEN {
         return false;
@@ -82,7 +80,7 @@ impl Session {
 impl Session {
     // Whether the lengths that set-up is given are on its list.
     pub fn set_up_listed(key_len: usize, salt_len: usize, mki_len: usize, tag_len: usize) -> bool
-        ensures { λ r. ⌜ r ≡ (eqb «key_len» 16 && (eqb «salt_len» 14 && (leb «mki_len» 4 && (eqb «tag_len» 4 || eqb «tag_len» 10)))) ⌝ }
+        ensures { λ r. ⌜ r ≡ setUpListed «key_len» «salt_len» «mki_len» «tag_len» ⌝ }
     {
         if key_len != Profile::MASTER_KEY_LEN {
             return false;

@@ -11,8 +11,7 @@ use Rattle.replay.specs.declared.index.Highest.{Highest}
 use Rattle.replay.specs.declared.index.Highest.the-variants as highest
 use Rattle.replay.specs.declared.index.MediaSender.{MediaSender}
 use Rattle.replay.specs.declared.window.Window.{Window}
-use Rattle.session.proofs.SetUpLaws.{all}
-use Rattle.session.specs.SetUps.{SetUp, listed, sessionOf, closedSession}
+use Rattle.session.specs.SetUps.{SetUp, setUpListed, listed, sessionOf, closedSession}
 use Rattle.session.specs.declared.Session.{Session}
 use Rattle.srtp.specs.Contexts.{closedSender, closedReceiver, startHighest, setUpSender, setUpReceiver}
 use Rattle.srtp.specs.declared.LastNumber.{LastNumber}
@@ -38,7 +37,7 @@ pub known-highest : (rollover q i : ℕ) (n : LastNumber) → n ≡ Known q → 
 known-highest rollover q i n e f = rw (e, f)
 
 -- ---- Sender::set_up, Receiver::set_up: b is whether the lengths are on the list
-module _ (u : SetUp) (b : Bool) (e : b ≡ all (length (u .masterKey)) (length (u .masterSalt)) (length (u .mki)) (u .tagLength)) where
+module _ (u : SetUp) (b : Bool) (e : b ≡ setUpListed (length (u .masterKey)) (length (u .masterSalt)) (length (u .mki)) (u .tagLength)) where
   is-listed : b ≡ listed u
   unfolding listed
   is-listed = e

@@ -14,6 +14,8 @@ use Rattle.replay.specs.declared.index.Estimate.{Estimate}
 use Rattle.replay.specs.declared.index.Estimate.the-variants as estimated
 use Rattle.replay.specs.declared.index.NextIndex.{NextIndex}
 use Rattle.replay.specs.declared.index.NextIndex.the-variants as next
+use Rattle.replay.specs.declared.index.NextControlIndex.{NextControlIndex}
+use Rattle.replay.specs.declared.index.NextControlIndex.the-variants as control
 use Rattle.replay.specs.declared.index.LastSent.{LastSent}
 use Rattle.replay.specs.declared.index.LastSent.the-variants as last
 
@@ -155,14 +157,13 @@ media-as l q = go (outOfOrder l q) refl (ltb maxMediaIndex (nextIndex l q)) refl
     go false e true f = (e, ltb-true _ _ f)
     go false e false f = (e, refl, ltb-false _ _ f)
 
-abbrev pub ControlAs : (sent : ℕ) → NextIndex → Type 0
-ControlAs n (next.Index i) = (n ≡ i) × (i ≤ maxControlIndex)
-ControlAs n next.Order = ⊥
-ControlAs n next.Spent = maxControlPackets ≤ n
+abbrev pub ControlAs : (sent : ℕ) → NextControlIndex → Type 0
+ControlAs n (control.Index i) = (n ≡ i) × (i ≤ maxControlIndex)
+ControlAs n control.Spent = maxControlPackets ≤ n
 
 pub control-as : (n : ℕ) → ControlAs n (nextControl n)
 control-as n = go (leb maxControlPackets n) refl
   where
-    go : (b : Bool) → leb maxControlPackets n ≡ b → ControlAs n (cond b next.Spent (next.Index n))
+    go : (b : Bool) → leb maxControlPackets n ≡ b → ControlAs n (cond b control.Spent (control.Index n))
     go true e = leb-true _ _ e
     go false e = let l : n < maxControlPackets = leb-false _ _ e in (refl, omega arith)

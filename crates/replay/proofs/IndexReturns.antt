@@ -6,13 +6,16 @@ use native.Mathlib.Omega.{arith}
 use lib.Dec.{eqb}
 use lib.Bits.{bitAnd, and-mask, and-le-r}
 use borrow.Author.Tests.{lt-ltb, le-ltb, le-leb, lt-leb, eq-eqb, ne-eqb}
-use Rattle.replay.specs.Index.{indexOf, maxMediaIndex, maxControlPackets, ahead, estimate, placed, nextMedia, nextControl, controlAfter}
+use Rattle.replay.specs.Index.{indexOf, maxMediaIndex, maxControlPackets, ahead, estimate, placed, nextMedia, mediaAfter, mediaStep, controlStep}
 use Rattle.replay.specs.declared.index.Highest.{Highest}
 use Rattle.replay.specs.declared.index.Highest.the-variants.{Absent, At}
 use Rattle.replay.specs.declared.index.Estimate.the-variants as estimated
 use Rattle.replay.specs.declared.index.LastSent.{LastSent}
 use Rattle.replay.specs.declared.index.LastSent.the-variants as last
+use Rattle.replay.specs.declared.index.NextIndex.{NextIndex}
 use Rattle.replay.specs.declared.index.NextIndex.the-variants as next
+use Rattle.replay.specs.declared.index.NextControlIndex.the-variants as control
+use Rattle.replay.specs.declared.index.MediaSender.{MediaSender}
 use Rattle.replay.specs.declared.index.ControlSender.{ControlSender}
 use Rattle.replay.proofs.IndexLaws.{estimate-ahead, estimate-behind, estimate-below}
 
@@ -72,17 +75,21 @@ module _ (q : ℕ) (l : LastSent) where
         step-index t =
             rw (e, some-step, d, lt-leb 32768 (ahead i q) (rw d at m), le-ltb maxMediaIndex (i + ahead i q) (omega arith))
 
--- ---- ControlSender
-pub control-spent : (n : ℕ) → maxControlPackets ≤ n → next.Spent ≡ nextControl n
-control-spent n l = rw (le-leb maxControlPackets n l)
+-- ---- MediaSender::step
+module _ (s : MediaSender) (q : ℕ) (x : NextIndex) (e : x ≡ nextMedia (s .last) q) where
+  pub stepped-index : (i : ℕ) → x ≡ next.Index i → record { index = next.Index i; next = mediaAfter i } ≡ mediaStep s q
+  stepped-index i d = rw (← e, d)
 
-pub control-index : (n : ℕ) → n < maxControlPackets → next.Index n ≡ nextControl n
-control-index n l = rw (lt-leb maxControlPackets n l)
+  pub stepped-order : x ≡ next.Order → record { index = x; next = s } ≡ mediaStep s q
+  stepped-order d = rw (← e, d)
 
+  pub stepped-spent : x ≡ next.Spent → record { index = x; next = s } ≡ mediaStep s q
+  stepped-spent d = rw (← e, d)
+
+-- ---- ControlSender::step
 module _ (s : ControlSender) where
-  pub control-full : maxControlPackets ≤ s .sent → record { sent = maxControlPackets } ≡ controlAfter s
-  control-full l =
-      ap (λ (n : ℕ). record { sent = n }) (omega arith)
+  pub control-spent : maxControlPackets ≤ s .sent → record { index = control.Spent; next = s } ≡ controlStep s
+  control-spent l = rw (le-leb maxControlPackets (s .sent) l)
 
-  pub control-more : s .sent < maxControlPackets → record { sent = s .sent + 1 } ≡ controlAfter s
-  control-more l = ap (λ (n : ℕ). record { sent = n }) (omega arith)
+  pub control-index : s .sent < maxControlPackets → record { index = control.Index (s .sent); next = record { sent = s .sent + 1 } } ≡ controlStep s
+  control-index l = rw (lt-leb maxControlPackets (s .sent) l)

@@ -1,4 +1,4 @@
--- One law for each way out of `Window::verdict` and `Window::mark`: what the code returns there is what the definition says, at length 64.
+-- One law for each way out of `Window::verdict`, `Window::accepting` and `Window::mark`: what the code returns there is what the definition says, at length 64.
 -- Assumes nothing.
 use mathlib.Core.Path.{_≡_, sym, ap, _∙_}
 use mathlib.Core.Bool.{cond}
@@ -8,8 +8,9 @@ use native.Mathlib.Omega.{arith}
 use lib.Pow.{pow-lt}
 use lib.Bits.{bitAnd, bitOr, and-mask}
 use borrow.Author.Tests.{lt-ltb, le-ltb, le-leb, lt-leb, eq-eqb, ne-eqb}
-use Rattle.replay.specs.Window.{windowLength, bit, windowVerdict, windowMark}
+use Rattle.replay.specs.Window.{windowLength, bit, windowVerdict, windowMark, windowMarked}
 use Rattle.replay.specs.declared.index.Highest.the-variants.{Absent, At}
+use Rattle.replay.specs.declared.window.Verdict.{Verdict}
 use Rattle.replay.specs.declared.window.Verdict.the-variants.{New, Old, Repeat}
 use Rattle.replay.specs.declared.window.Window.{Window}
 use Rattle.replay.proofs.BitLaws.{moved-out}
@@ -65,3 +66,7 @@ module _ (w : Window) (i : ℕ) where
     mark-behind l m =
         let d : max h i ≡ h = omega arith in
         rw (e, d, le-ltb h i l, lt-leb (i + 64) h (omega arith), one-shl (h - i) m)
+
+  pub mark-both : (v : Verdict) (m : Window) → v ≡ windowVerdict windowLength w i → m ≡ windowMark windowLength w i
+      → record { verdict = v; next = m } ≡ windowMarked windowLength w i
+  mark-both v m e f = rw (e, f)

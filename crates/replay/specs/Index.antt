@@ -1,6 +1,6 @@
 -- The index of a packet: RFC 3711, 3.3.1, and 01, 'Arithmetic of the index', which settles what the RFC leaves open (equal distances) and
 -- differs from it in one point (an index never wraps, at either end). H is a receiver's highest index. Assumes nothing.
-use Prim.Native.Nat.{ℕ, suc, _+_, _-_, _*_, _/_, _%_, _^_, _≤_, _<_, min}
+use Prim.Native.Nat.{ℕ, suc, _+_, _-_, _*_, _/_, _%_, _^_, _≤_, _<_}
 use mathlib.Core.Path.{_≡_}
 use mathlib.Core.Bool.{Bool, false, cond, _||_}
 use lib.Dec.{eqb, leb, ltb}
@@ -13,8 +13,12 @@ use Rattle.replay.specs.declared.index.LastSent.{LastSent}
 use Rattle.replay.specs.declared.index.LastSent.the-variants as last
 use Rattle.replay.specs.declared.index.NextIndex.{NextIndex}
 use Rattle.replay.specs.declared.index.NextIndex.the-variants as next
+use Rattle.replay.specs.declared.index.NextControlIndex.{NextControlIndex}
+use Rattle.replay.specs.declared.index.NextControlIndex.the-variants as control
 use Rattle.replay.specs.declared.index.MediaSender.{MediaSender}
+use Rattle.replay.specs.declared.index.MediaStep.{MediaStep}
 use Rattle.replay.specs.declared.index.ControlSender.{ControlSender}
+use Rattle.replay.specs.declared.index.ControlStep.{ControlStep}
 
 -- i = 2^16 * ROC + SEQ, and back
 abbrev pub indexOf : (rollover number : ℕ) → ℕ
@@ -99,14 +103,30 @@ mediaStart = record { last = last.Nothing }
 abbrev pub mediaAfter : (index : ℕ) → MediaSender
 mediaAfter i = record { last = last.At i }
 
+-- and beside it the state once the packet is sent. A refusal leaves the state as it is
+abbrev pub mediaNext : NextIndex → MediaSender → MediaSender
+mediaNext (next.Index i) s = mediaAfter i
+mediaNext next.Order s = s
+mediaNext next.Spent s = s
+
+abbrev pub mediaStep : MediaSender → (number : ℕ) → MediaStep
+mediaStep s number = record { index = nextMedia (s .last) number; next = mediaNext (nextMedia (s .last) number) s }
+
 -- ---- control: the sender's first index is 0, each next one is one more, and after 2^31 packets it is SPENT. A receiver reads the index,
 -- of 31 bits, from the packet: nothing is estimated and none is SPENT
-abbrev pub nextControl : (sent : ℕ) → NextIndex
-nextControl sent = cond (leb maxControlPackets sent) next.Spent (next.Index sent)
+abbrev pub nextControl : (sent : ℕ) → NextControlIndex
+nextControl sent = cond (leb maxControlPackets sent) control.Spent (control.Index sent)
 
 abbrev pub controlStart : ControlSender
 controlStart = record { sent = 0 }
 
--- one more is sent, where one may be
+-- one more is sent
 abbrev pub controlAfter : ControlSender → ControlSender
-controlAfter s = record { sent = min (s .sent + 1) maxControlPackets }
+controlAfter s = record { sent = s .sent + 1 }
+
+abbrev pub controlNext : NextControlIndex → ControlSender → ControlSender
+controlNext (control.Index i) s = controlAfter s
+controlNext control.Spent s = s
+
+abbrev pub controlStep : ControlSender → ControlStep
+controlStep s = record { index = nextControl (s .sent); next = controlNext (nextControl (s .sent)) s }

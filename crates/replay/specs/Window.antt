@@ -10,6 +10,7 @@ use Rattle.replay.specs.declared.index.Highest.{Highest}
 use Rattle.replay.specs.declared.index.Highest.the-variants.{Absent, At}
 use Rattle.replay.specs.declared.window.Verdict.{Verdict}
 use Rattle.replay.specs.declared.window.Window.{Window}
+use Rattle.replay.specs.declared.window.Marked.{Marked}
 
 -- the length n of the windows for media and control
 abbrev pub windowLength : ℕ
@@ -49,6 +50,10 @@ wordAfter n (At h) word i =
 
 abbrev pub windowMark : (n : ℕ) → Window → (index : ℕ) → Window
 windowMark n w i = record { highest = raise (w .highest) i; bits = wordAfter n (w .highest) (w .bits) i }
+
+-- and the verdict on i beside it
+abbrev pub windowMarked : (n : ℕ) → Window → (index : ℕ) → Marked
+windowMarked n w i = record { verdict = windowVerdict n w i; next = windowMark n w i }
 
 abbrev pub windowMarkAll : (n : ℕ) → Window → List ℕ → Window
 windowMarkAll n w [] = w

@@ -1,7 +1,7 @@
 // The index of a packet (RFC 3711, 3.3.1): 65,536 times the rollover counter plus the RTP sequence number. Nothing wraps at either end.
 ghost use mathlib.Core.Path.{_≡_};
 ghost use Rattle.replay.specs.Index.{indexOf, ahead as aheadOf, estimate as estimateOf, placed};
-ghost use Rattle.replay.specs.Index.{nextMedia, mediaStart, mediaAfter, nextControl, controlStart, controlAfter};
+ghost use Rattle.replay.specs.Index.{nextMedia, mediaStart, mediaStep, controlStart, controlStep};
 
 // The highest media index, 2^48 - 1.
 pub const MAX_MEDIA_INDEX: u64 = 0xffff_ffff_ffff;
@@ -36,6 +36,12 @@ pub enum NextIndex {
     Spent,
 }
 
+// The same of control, whose packets have no order to break.
+pub enum NextControlIndex {
+    Index(u64),
+    Spent,
+}
+
 // A sender's media state: the index used last.
 pub struct MediaSender {
     pub last: LastSent,
@@ -44,6 +50,18 @@ pub struct MediaSender {
 // A sender's control state: how many packets it sent.
 pub struct ControlSender {
     pub sent: u64,
+}
+
+// What a sender does with its next media packet, and beside it its state once the packet is sent.
+pub struct MediaStep {
+    pub index: NextIndex,
+    pub next: MediaSender,
+}
+
+// The same of control.
+pub struct ControlStep {
+    pub index: NextControlIndex,
+    pub next: ControlSender,
 }
 
 // The index with this rollover counter and sequence number.
@@ -99,7 +117,7 @@ impl MediaSender {
     }
 
     // The index of the next packet, which has this number.
-    pub fn next_index(self, number: u16) -> NextIndex
+    fn next_index(self, number: u16) -> NextIndex
         ensures { λ r. ⌜ r ≡ nextMedia (self .last) number ⌝ }
     {
         let sent = self.last;
@@ -119,12 +137,20 @@ impl MediaSender {
         NextIndex::Index(last + step)
     }
 
-    // The state after a packet with this index was sent.
-    pub fn after(self, index: u64) -> MediaSender
-        ensures { λ r. ⌜ r ≡ mediaAfter index ⌝ }
+    // The same, with the state once it is sent. A refusal leaves the state as it is.
+    pub fn step(self, number: u16) -> MediaStep
+        ensures { λ r. ⌜ r ≡ mediaStep self number ⌝ }
     {
-        MediaSender {
-            last: LastSent::At(index),
+        let index = self.next_index(number);
+        match index {
+            NextIndex::Index(i) => MediaStep {
+                index,
+                next: MediaSender {
+                    last: LastSent::At(i),
+                },
+            },
+            NextIndex::Order => MediaStep { index, next: self },
+            NextIndex::Spent => MediaStep { index, next: self },
         }
     }
 }
@@ -137,27 +163,21 @@ impl ControlSender {
         ControlSender { sent: 0 }
     }
 
-    // The index of the next packet.
-    pub fn next_index(self) -> NextIndex
-        ensures { λ r. ⌜ r ≡ nextControl (self .sent) ⌝ }
+    // The index of the next packet, with the state once it is sent.
+    pub fn step(self) -> ControlStep
+        ensures { λ r. ⌜ r ≡ controlStep self ⌝ }
     {
         if self.sent >= MAX_CONTROL_PACKETS {
-            return NextIndex::Spent;
-        }
-        NextIndex::Index(self.sent)
-    }
-
-    // The state after one more packet was sent, if one may be.
-    pub fn after(self) -> ControlSender
-        ensures { λ r. ⌜ r ≡ controlAfter self ⌝ }
-    {
-        if self.sent >= MAX_CONTROL_PACKETS {
-            return ControlSender {
-                sent: MAX_CONTROL_PACKETS,
+            return ControlStep {
+                index: NextControlIndex::Spent,
+                next: self,
             };
         }
-        ControlSender {
-            sent: self.sent + 1,
+        ControlStep {
+            index: NextControlIndex::Index(self.sent),
+            next: ControlSender {
+                sent: self.sent + 1,
+            },
         }
     }
 }

@@ -1,7 +1,7 @@
 // The replay window (RFC 3711, 3.3.2): which of the last 64 indices up to the highest were accepted. Media and control have one each.
 ghost use mathlib.Core.Path.{_≡_};
 ghost use Rattle.replay.specs.declared.index.Highest.the-variants.{Absent};
-ghost use Rattle.replay.specs.Window.{windowLength, windowStart, windowVerdict, windowMark};
+ghost use Rattle.replay.specs.Window.{windowLength, windowStart, windowVerdict, windowMark, windowMarked};
 use crate::index::Highest;
 
 // What a receiver makes of an index: it is new; or refused as OLD, too far behind the highest; or refused as REPEAT, accepted already.
@@ -15,6 +15,12 @@ pub enum Verdict {
 pub struct Window {
     pub highest: Highest,
     pub bits: u64,
+}
+
+// The verdict on an index, and beside it the window with the index accepted.
+pub struct Marked {
+    pub verdict: Verdict,
+    pub next: Window,
 }
 
 impl Window {
@@ -38,8 +44,8 @@ impl Window {
         Window { highest, bits: 0 }
     }
 
-    // What the receiver makes of this index. It changes nothing: only `mark` does, once the packet is accepted.
-    pub fn verdict(self, index: u64) -> Verdict
+    // What the receiver makes of this index.
+    fn verdict(self, index: u64) -> Verdict
         ensures { λ r. ⌜ r ≡ windowVerdict windowLength self index ⌝ }
     {
         let highest = self.highest;
@@ -60,7 +66,7 @@ impl Window {
     }
 
     // The window with this index accepted.
-    pub fn mark(self, index: u64) -> Window
+    fn accepting(self, index: u64) -> Window
         ensures { λ r. ⌜ r ≡ windowMark windowLength self index ⌝ }
     {
         let highest = self.highest;
@@ -90,6 +96,16 @@ impl Window {
         Window {
             highest: Highest::At(h),
             bits: self.bits | (1 << back),
+        }
+    }
+
+    // The verdict on this index, and the window with it accepted: the receiver takes that over only once the packet's tag is right.
+    pub fn mark(self, index: u64) -> Marked
+        ensures { λ r. ⌜ r ≡ windowMarked windowLength self index ⌝ }
+    {
+        Marked {
+            verdict: self.verdict(index),
+            next: self.accepting(index),
         }
     }
 }

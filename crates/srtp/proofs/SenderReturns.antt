@@ -1,6 +1,6 @@
 -- One law for each way out of a sender's calls: what the caller sees is the outcome's. And what is known where no row holds. Assumes nothing.
 use mathlib.Core.List.{List}
-use mathlib.Core.Path.{_≡_, refl, ap}
+use mathlib.Core.Path.{_≡_, refl, sym, ap, _∙_}
 use Prim.Native.Nat.{ℕ, _+_, _^_, _≤_, _<_}
 use native.Mathlib.Omega.{arith}
 use borrow.Author.Tests.{ltb-false, leb-false, not-false}
@@ -35,17 +35,19 @@ media-stops : (n i : ℕ) (j : Judgement) {v : MediaVerdict} {r : Refusal} → v
 media-stops n i passes e d = let z : _≡_ {A = ℕ} 0 1 = cc in absurd (omega arith)
 media-stops n i (stops r) e d = cc
 
-media-passes : (n i : ℕ) (j : Judgement) {v : MediaVerdict} {m k : ℕ} → v ≡ mediaAs n i j → v ≡ media.Protects m k → (j ≡ passes) × (m ≡ n) × (k ≡ i)
-media-passes n i passes e d = (refl, cc, cc)
+media-passes : (n i : ℕ) (j : Judgement) {v : MediaVerdict} {m k : ℕ} {a : MediaSender} → v ≡ mediaAs n i j → v ≡ media.Protects m k a
+    → (j ≡ passes) × (m ≡ n) × (k ≡ i) × (a ≡ mediaAfter i)
+media-passes n i passes e d = (refl, cc, cc, cc)
 media-passes n i (stops r) e d = let z : _≡_ {A = ℕ} 0 1 = cc in absurd (omega arith)
 
-control-stops : (i : ℕ) (j : Judgement) {v : ControlVerdict} {r : Refusal} → v ≡ controlAs i j → v ≡ control.Stops r → j ≡ stops r
-control-stops i passes e d = let z : _≡_ {A = ℕ} 0 1 = cc in absurd (omega arith)
-control-stops i (stops r) e d = cc
+control-stops : (s : ControlSender) (j : Judgement) {v : ControlVerdict} {r : Refusal} → v ≡ controlAs s j → v ≡ control.Stops r → j ≡ stops r
+control-stops s passes e d = let z : _≡_ {A = ℕ} 0 1 = cc in absurd (omega arith)
+control-stops s (stops r) e d = cc
 
-control-passes : (i : ℕ) (j : Judgement) {v : ControlVerdict} {k : ℕ} → v ≡ controlAs i j → v ≡ control.Protects k → (j ≡ passes) × (k ≡ i)
-control-passes i passes e d = (refl, cc)
-control-passes i (stops r) e d = let z : _≡_ {A = ℕ} 0 1 = cc in absurd (omega arith)
+control-passes : (s : ControlSender) (j : Judgement) {v : ControlVerdict} {k : ℕ} {a : ControlSender} → v ≡ controlAs s j → v ≡ control.Protects k a
+    → (j ≡ passes) × (k ≡ s .sent) × (a ≡ controlAfter s)
+control-passes s passes e d = (refl, cc, cc)
+control-passes s (stops r) e d = let z : _≡_ {A = ℕ} 0 1 = cc in absurd (omega arith)
 
 -- ---- Sender::send_media
 module _ (c : Sender) (p d : List ℕ) (v : MediaVerdict) (e : v ≡ mediaVerdictFrom 0 c p (length d)) where
@@ -61,8 +63,8 @@ module _ (c : Sender) (p d : List ℕ) (v : MediaVerdict) (e : v ≡ mediaVerdic
       shows-refused (sendMedia c p (length d)) c d r
       (ap (λ (j : Judgement). settled j (mediaSent c p next)) (media-stops (headerLength p) next judgement e f))
 
-  module _ (n i : ℕ) (f : v ≡ media.Protects n i) where
-    told : (judgement ≡ passes) × (n ≡ headerLength p) × (i ≡ next)
+  module _ (n i : ℕ) (m : MediaSender) (f : v ≡ media.Protects n i m) where
+    told : (judgement ≡ passes) × (n ≡ headerLength p) × (i ≡ next) × (m ≡ mediaAfter next)
     told = media-passes (headerLength p) next judgement e f
 
     pub media-ready : length (c .session .settings .mki) ≡ 4 →
@@ -81,13 +83,14 @@ module _ (c : Sender) (p d : List ℕ) (v : MediaVerdict) (e : v ≡ mediaVerdic
           ((omega (arith, told .2, last), ltb-false 2048 (length p) (w .1 .0)), ((listed .mki, listed .tag), rw (← size) whole)),
         )
 
-    pub media-shown : (len : ℕ) (d′ : List ℕ) (m : MediaSender)
-        → (len ≡ length (srtp (c .session) p i)) × (d′ ≡ over (srtp (c .session) p i) d) → m ≡ mediaAfter i
+    pub media-shown : (len : ℕ) (d′ : List ℕ)
+        → (len ≡ length (srtp (c .session) p i)) × (d′ ≡ over (srtp (c .session) p i) d)
         → SenderShows (sendMedia c p (length d)) c d
         (record { answer = Sent len i; next = record { session = c .session; media = m; control = c .control } }) d′
     unfolding sendMedia
-    media-shown len d′ m w em =
+    media-shown len d′ w =
         let o : sendMedia c p (length d) ≡ mediaSent c p i = rw (told .0, told .2) in
+        let em : m ≡ mediaAfter i = told .3 ∙ sym (ap mediaAfter (told .2)) in
         rw em (shows-done (sendMedia c p (length d)) c d (srtp (c .session) p i) i len _ d′ o (w .0) (w .1))
 
 -- ---- Sender::send_control
@@ -99,11 +102,11 @@ module _ (c : Sender) (p d : List ℕ) (v : ControlVerdict) (e : v ≡ controlVe
   unfolding sendControl
   control-refused r f =
       shows-refused (sendControl c p (length d)) c d r
-      (ap (λ (j : Judgement). settled j (controlSent c p (c .control .sent))) (control-stops (c .control .sent) controlJudgement e f))
+      (ap (λ (j : Judgement). settled j (controlSent c p (c .control .sent))) (control-stops (c .control) controlJudgement e f))
 
-  module _ (i : ℕ) (f : v ≡ control.Protects i) where
-    control-told : (controlJudgement ≡ passes) × (i ≡ c .control .sent)
-    control-told = control-passes (c .control .sent) controlJudgement e f
+  module _ (i : ℕ) (m : ControlSender) (f : v ≡ control.Protects i m) where
+    control-told : (controlJudgement ≡ passes) × (i ≡ c .control .sent) × (m ≡ controlAfter (c .control))
+    control-told = control-passes (c .control) controlJudgement e f
 
     pub control-ready : length (c .session .settings .mki) ≡ 4 →
         ((8 ≤ length p) × (length p ≤ 2048) × (i < 2 ^ 31))
@@ -118,12 +121,12 @@ module _ (c : Sender) (p d : List ℕ) (v : ControlVerdict) (e : v ≡ controlVe
           (listed .mki, rw (← size) whole),
         )
 
-    pub control-shown : (len : ℕ) (d′ : List ℕ) (m : ControlSender)
+    pub control-shown : (len : ℕ) (d′ : List ℕ)
         → (len ≡ length (srtcp (c .session) (encrypts (cipherOf (c .session))) p i))
-        × (d′ ≡ over (srtcp (c .session) (encrypts (cipherOf (c .session))) p i) d) → m ≡ controlAfter (c .control)
+        × (d′ ≡ over (srtcp (c .session) (encrypts (cipherOf (c .session))) p i) d)
         → SenderShows (sendControl c p (length d)) c d
         (record { answer = Sent len i; next = record { session = c .session; media = c .media; control = m } }) d′
     unfolding sendControl
-    control-shown len d′ m w em =
+    control-shown len d′ w =
         let o : sendControl c p (length d) ≡ controlSent c p i = rw (control-told .0, control-told .1) in
-        rw em (shows-done (sendControl c p (length d)) c d (srtcp (c .session) (encrypts (cipherOf (c .session))) p i) i len _ d′ o (w .0) (w .1))
+        rw (control-told .2) (shows-done (sendControl c p (length d)) c d (srtcp (c .session) (encrypts (cipherOf (c .session))) p i) i len _ d′ o (w .0) (w .1))

@@ -2,18 +2,22 @@
 -- Assumes nothing.
 use mathlib.Core.Bool.{Bool, true, false, not, _&&_}
 use mathlib.Core.List.{List}
-use mathlib.Core.Path.{_≡_}
+use mathlib.Core.Path.{_≡_, sym, ap, _∙_}
 use Prim.Native.Nat.{ℕ, _+_, _≤_, _<_}
 use native.Mathlib.Omega.{arith}
 use borrow.Author.Tests.{lt-ltb, le-ltb, lt-leb, le-leb, eq-eqb, ne-eqb, not-true, not-false}
 use lib.Dec.{leb}
 use lib.ListN.{length}
 use Rattle.replay.proofs.IndexLaws.{MediaAs, media-as, ControlAs, control-as}
-use Rattle.replay.specs.Index.{maxMediaIndex, maxControlPackets, nextMedia, nextControl}
+use Rattle.replay.specs.Index.{maxMediaIndex, maxControlPackets, nextMedia, mediaAfter, mediaNext, mediaStep, nextControl as nextControlOf, controlAfter, controlNext, controlStep}
 use Rattle.replay.specs.declared.index.LastSent.{LastSent}
 use Rattle.replay.specs.declared.index.LastSent.the-variants as last
 use Rattle.replay.specs.declared.index.NextIndex.{NextIndex}
 use Rattle.replay.specs.declared.index.NextIndex.the-variants as next
+use Rattle.replay.specs.declared.index.NextControlIndex.{NextControlIndex}
+use Rattle.replay.specs.declared.index.NextControlIndex.the-variants as nextControl
+use Rattle.replay.specs.declared.index.MediaStep.{MediaStep}
+use Rattle.replay.specs.declared.index.ControlStep.{ControlStep}
 use Rattle.rtp.proofs.AnswerLaws.{both}
 use Rattle.rtp.proofs.RtcpLaws.{rtcp-read, rtcp-unread}
 use Rattle.rtp.proofs.RtpLaws.{rtp-read, rtp-unread}
@@ -91,21 +95,26 @@ module _ (c : Sender) (p : List ℕ) (room n q x : ℕ) (en : n ≡ headerLength
     pub media-room : room < need → media.Stops Room ≡ mediaVerdictFrom 3 c p room
     media-room h = rw (← ex, eq-eqb x (c .session .settings .ssrc) s, size, lt-ltb room need h)
 
-    module _ (h : need ≤ room) (r : NextIndex) (f : r ≡ nextMedia (c .media .last) q) where
-      pub media-order : r ≡ next.Order → media.Stops Order ≡ mediaVerdictFrom 3 c p room
+    module _ (h : need ≤ room) (r : MediaStep) (f : r ≡ mediaStep (c .media) q) where
+      is : (x : NextIndex) → r .index ≡ x → nextMedia (c .media .last) q ≡ x
+      is x d = sym (ap (λ (y : MediaStep). y .index) f) ∙ d
+
+      pub media-order : r .index ≡ next.Order → media.Stops Order ≡ mediaVerdictFrom 3 c p room
       media-order d =
-          let w : MediaAs (c .media .last) q next.Order = rw (← f, d) at (media-as (c .media .last) q) in
+          let w : MediaAs (c .media .last) q next.Order = rw (is _ d) at (media-as (c .media .last) q) in
           rw (← ex, eq-eqb x (c .session .settings .ssrc) s, size, le-ltb room need h, ← eq, w)
 
-      pub media-spent : r ≡ next.Spent → media.Stops Spent ≡ mediaVerdictFrom 3 c p room
+      pub media-spent : r .index ≡ next.Spent → media.Stops Spent ≡ mediaVerdictFrom 3 c p room
       media-spent d =
-          let w : MediaAs (c .media .last) q next.Spent = rw (← f, d) at (media-as (c .media .last) q) in
+          let w : MediaAs (c .media .last) q next.Spent = rw (is _ d) at (media-as (c .media .last) q) in
           rw (← ex, eq-eqb x (c .session .settings .ssrc) s, size, le-ltb room need h, ← eq, w .0, lt-ltb maxMediaIndex _ (w .1))
 
-      pub media-index : (i : ℕ) → r ≡ next.Index i → media.Protects n i ≡ mediaVerdictFrom 3 c p room
+      pub media-index : (i : ℕ) → r .index ≡ next.Index i → media.Protects n i (r .next) ≡ mediaVerdictFrom 3 c p room
       media-index i d =
-          let w : MediaAs (c .media .last) q (next.Index i) = rw (← f, d) at (media-as (c .media .last) q) in
-          rw (← ex, eq-eqb x (c .session .settings .ssrc) s, size, le-ltb room need h, ← eq, w .0, w .1, le-ltb maxMediaIndex i (w .2), en)
+          let w : MediaAs (c .media .last) q (next.Index i) = rw (is _ d) at (media-as (c .media .last) q) in
+          let a : r .next ≡ mediaAfter i =
+          ap (λ (y : MediaStep). y .next) f ∙ ap (λ (y : NextIndex). mediaNext y (c .media)) (is _ d) in
+          rw (a, ← ex, eq-eqb x (c .session .settings .ssrc) s, size, le-ltb room need h, ← eq, w .0, w .1, le-ltb maxMediaIndex i (w .2), en)
 
 -- ---- Sender::judge_control
 module _ (c : Sender) (p : List ℕ) (room : ℕ) (g : Bool) (e : g ≡ senderListed c) where
@@ -138,16 +147,18 @@ module _ (c : Sender) (p : List ℕ) (room x : ℕ) (ex : x ≡ rtcpSsrc p) wher
     pub control-room : room < controlNeed → control.Stops Room ≡ controlVerdictFrom 3 c p room
     control-room h = rw (← ex, eq-eqb x (c .session .settings .ssrc) s, control-size, lt-ltb room controlNeed h)
 
-    module _ (h : controlNeed ≤ room) (r : NextIndex) (f : r ≡ nextControl (c .control .sent)) where
-      pub control-order : r ≡ next.Order → control.Stops Spent ≡ controlVerdictFrom 3 c p room
-      control-order d = let w : ControlAs (c .control .sent) next.Order = rw (← f, d) at (control-as (c .control .sent)) in absurd w
+    module _ (h : controlNeed ≤ room) (r : ControlStep) (f : r ≡ controlStep (c .control)) where
+      control-is : (y : NextControlIndex) → r .index ≡ y → nextControlOf (c .control .sent) ≡ y
+      control-is y d = sym (ap (λ (z : ControlStep). z .index) f) ∙ d
 
-      pub control-spent : r ≡ next.Spent → control.Stops Spent ≡ controlVerdictFrom 3 c p room
+      pub control-spent : r .index ≡ nextControl.Spent → control.Stops Spent ≡ controlVerdictFrom 3 c p room
       control-spent d =
-          let w : ControlAs (c .control .sent) next.Spent = rw (← f, d) at (control-as (c .control .sent)) in
+          let w : ControlAs (c .control .sent) nextControl.Spent = rw (control-is _ d) at (control-as (c .control .sent)) in
           rw (← ex, eq-eqb x (c .session .settings .ssrc) s, control-size, le-ltb room controlNeed h, le-leb maxControlPackets (c .control .sent) w)
 
-      pub control-index : (i : ℕ) → r ≡ next.Index i → control.Protects i ≡ controlVerdictFrom 3 c p room
+      pub control-index : (i : ℕ) → r .index ≡ nextControl.Index i → control.Protects i (r .next) ≡ controlVerdictFrom 3 c p room
       control-index i d =
-          let w : ControlAs (c .control .sent) (next.Index i) = rw (← f, d) at (control-as (c .control .sent)) in
-          rw (← ex, eq-eqb x (c .session .settings .ssrc) s, control-size, le-ltb room controlNeed h, w .0, lt-leb maxControlPackets i (omega (arith, w .1)))
+          let w : ControlAs (c .control .sent) (nextControl.Index i) = rw (control-is _ d) at (control-as (c .control .sent)) in
+          let a : r .next ≡ controlAfter (c .control) =
+          ap (λ (z : ControlStep). z .next) f ∙ ap (λ (y : NextControlIndex). controlNext y (c .control)) (control-is _ d) in
+          rw (a, ← ex, eq-eqb x (c .session .settings .ssrc) s, control-size, le-ltb room controlNeed h, w .0, lt-leb maxControlPackets i (omega (arith, w .1)))

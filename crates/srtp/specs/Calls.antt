@@ -1,6 +1,6 @@
 -- The four calls on a packet, each a total definition: context, bytes to read and length of the buffer in, outcome out. The rows of each
 -- stand in the order of the table of refusals, without those that do not concern it. Assumes nothing.
-use Prim.Native.Nat.{ℕ, _+_, _-_, _^_}
+use Prim.Native.Nat.{ℕ, _+_}
 use mathlib.Core.Bool.{Bool, true, false, not}
 use mathlib.Core.List.{List, [], _∷_}
 use lib.Dec.{eqb, leb, ltb}

@@ -1,8 +1,6 @@
 -- Contexts: the closed one of each kind, set-up, and which context values row 1 of the table refuses. Assumes nothing.
-use Prim.Native.Nat.{ℕ, _+_, _*_, _-_, _^_}
-use mathlib.Core.Path.{_≡_}
+use Prim.Native.Nat.{ℕ}
 use mathlib.Core.Bool.{Bool, true, cond, _&&_}
-use mathlib.Core.List.{List}
 use lib.Dec.{leb}
 use Rattle.replay.specs.Index.{indexOf, maxMediaIndex, maxControlIndex, maxControlPackets, mediaStart, controlStart}
 use Rattle.replay.specs.Window.{windowStart}
@@ -13,7 +11,6 @@ use Rattle.replay.specs.declared.index.LastSent.the-variants as last
 use Rattle.srtp.specs.declared.LastNumber.{LastNumber}
 use Rattle.srtp.specs.declared.LastNumber.the-variants.{Unknown, Known}
 use Rattle.srtp.specs.declared.Refusal.the-variants.{Setup}
-use Rattle.srtp.specs.declared.SetUpAnswer.{SetUpAnswer}
 use Rattle.srtp.specs.declared.SetUpAnswer.the-variants.{Ready, Refused}
 use Rattle.srtp.specs.declared.Sender.{Sender}
 use Rattle.srtp.specs.declared.Receiver.{Receiver}

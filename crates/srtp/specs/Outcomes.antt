@@ -12,6 +12,8 @@ use Rattle.srtp.specs.declared.SetUpAnswer.{SetUpAnswer}
 use Rattle.srtp.specs.declared.SetUpAnswer.the-variants as setup
 use Rattle.srtp.specs.declared.Sender.{Sender}
 use Rattle.srtp.specs.declared.Receiver.{Receiver}
+use Rattle.srtp.specs.declared.SenderSetUp.{SenderSetUp}
+use Rattle.srtp.specs.declared.ReceiverSetUp.{ReceiverSetUp}
 use Rattle.srtp.specs.declared.SenderAfter.{SenderAfter}
 use Rattle.srtp.specs.declared.ReceiverAfter.{ReceiverAfter}
 
@@ -49,6 +51,11 @@ abbrev pub shown : Answer → Shown
 shown (Sent n i) = record { number = 0; len = n; index = i }
 shown (Refused n) = record { number = numberOf n; len = 0; index = 0 }
 
+-- and what set-up answers
+abbrev pub setUpShown : SetUpAnswer → Shown
+setUpShown setup.Ready = record { number = 0; len = 0; index = 0 }
+setUpShown (setup.Refused n) = record { number = numberOf n; len = 0; index = 0 }
+
 -- ---- what a call promises: each thing that the caller sees is the outcome's
 pub record SenderShows (o : Outcome Sender) (old : Sender) (before : List ℕ) (r : SenderAfter) (after : List ℕ) : Type 0 where
   pub answer : r .answer ≡ answerOf o
@@ -61,3 +68,11 @@ pub record ReceiverShows (o : Outcome Receiver) (old : Receiver) (before : List 
   pub shows : shown (r .answer) ≡ shown (answerOf o)
   pub next : r .next ≡ nextOf o old
   pub buffer : after ≡ bufferOf o before
+
+pub record SenderSetUpShows (made r : SenderSetUp) : Type 0 where
+  pub is : r ≡ made
+  pub shows : setUpShown (r .answer) ≡ setUpShown (made .answer)
+
+pub record ReceiverSetUpShows (made r : ReceiverSetUp) : Type 0 where
+  pub is : r ≡ made
+  pub shows : setUpShown (r .answer) ≡ setUpShown (made .answer)

@@ -67,7 +67,8 @@ fn at_most(highest: Highest, bound: u64) -> bool
 fn judge_replay(window: Window, index: u64) -> Judged
     ensures { λ r. ⌜ r ≡ judgedAs (judged (replayRows window index)) ⌝ }
 {
-    let verdict = window.verdict(index);
+    let marked = window.mark(index);
+    let verdict = marked.verdict;
     match verdict {
         Verdict::New => Judged::Passes,
         Verdict::Old => Judged::Stops(Refusal::Old),
@@ -306,8 +307,9 @@ impl Receiver {
                 session.cipher_media(&t, &packet[..len], header_len, index, out);
                 let window = self.media;
                 let marked = window.mark(index);
+                let after = marked.next;
                 let mut next = self;
-                next.media = marked;
+                next.media = after;
                 ReceiverAfter {
                     answer: Answer::Sent { len, index },
                     next,
@@ -336,8 +338,9 @@ impl Receiver {
                 session.cipher_control(&t, encrypted, &packet[..len], index, out);
                 let window = self.control;
                 let marked = window.mark(index);
+                let after = marked.next;
                 let mut next = self;
-                next.control = marked;
+                next.control = after;
                 ReceiverAfter {
                     answer: Answer::Sent { len, index },
                     next,

@@ -14,23 +14,30 @@ use crate::Answer;
 use crate::Refusal;
 use crate::Sender;
 use crate::SenderAfter;
+use replay::index::ControlSender;
 use replay::index::LastSent;
 use replay::index::MAX_CONTROL_PACKETS;
 use replay::index::MAX_MEDIA_INDEX;
+use replay::index::MediaSender;
+use replay::index::NextControlIndex;
 use replay::index::NextIndex;
 use rtp::Header;
 use rtp::RtcpHeader;
 use session::Profile;
 
-// What the rows of media say: where none holds, where the payload starts, and the index.
+// What the rows of media say: where none holds, where the payload starts, the index, and the state once the packet is sent.
 enum MediaVerdict {
-    Protects { header_len: usize, index: u64 },
+    Protects {
+        header_len: usize,
+        index: u64,
+        after: MediaSender,
+    },
     Stops(Refusal),
 }
 
-// The same of control: the index.
+// The same of control: the index and the state.
 enum ControlVerdict {
-    Protects { index: u64 },
+    Protects { index: u64, after: ControlSender },
     Stops(Refusal),
 }
 
@@ -108,9 +115,15 @@ impl Sender {
             return MediaVerdict::Stops(Refusal::Room);
         }
         let media = self.media;
-        let next = media.next_index(number);
+        let step = media.step(number);
+        let next = step.index;
+        let after = step.next;
         match next {
-            NextIndex::Index(index) => MediaVerdict::Protects { header_len, index },
+            NextIndex::Index(index) => MediaVerdict::Protects {
+                header_len,
+                index,
+                after,
+            },
             NextIndex::Order => MediaVerdict::Stops(Refusal::Order),
             NextIndex::Spent => MediaVerdict::Stops(Refusal::Spent),
         }
@@ -148,12 +161,12 @@ impl Sender {
             return ControlVerdict::Stops(Refusal::Room);
         }
         let control = self.control;
-        // Control packets have no order to break: their index is the count of those sent.
-        let next = control.next_index();
+        let step = control.step();
+        let next = step.index;
+        let after = step.next;
         match next {
-            NextIndex::Index(index) => ControlVerdict::Protects { index },
-            NextIndex::Order => ControlVerdict::Stops(Refusal::Spent),
-            NextIndex::Spent => ControlVerdict::Stops(Refusal::Spent),
+            NextControlIndex::Index(index) => ControlVerdict::Protects { index, after },
+            NextControlIndex::Spent => ControlVerdict::Stops(Refusal::Spent),
         }
     }
 }
@@ -171,11 +184,13 @@ impl Sender {
                 answer: Answer::Refused(refusal),
                 next: self,
             },
-            MediaVerdict::Protects { header_len, index } => {
+            MediaVerdict::Protects {
+                header_len,
+                index,
+                after,
+            } => {
                 let session = self.session;
                 let len = session.protect_media(packet, header_len, index, out);
-                let before = self.media;
-                let after = before.after(index);
                 let mut next = self;
                 next.media = after;
                 SenderAfter {
@@ -196,11 +211,9 @@ impl Sender {
                 answer: Answer::Refused(refusal),
                 next: self,
             },
-            ControlVerdict::Protects { index } => {
+            ControlVerdict::Protects { index, after } => {
                 let session = self.session;
                 let len = session.protect_control(packet, index, out);
-                let before = self.control;
-                let after = before.after();
                 let mut next = self;
                 next.control = after;
                 SenderAfter {

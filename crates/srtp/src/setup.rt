@@ -1,6 +1,7 @@
 // Set-up of senders and receivers, and the closed context that a bad set-up answers.
 ghost use mathlib.Core.Path.{_≡_};
 ghost use Rattle.session.specs.SetUps.{SetUp};
+ghost use Rattle.srtp.specs.Outcomes.{SenderSetUpShows, ReceiverSetUpShows};
 ghost use Rattle.srtp.specs.Contexts.{closedSender, closedReceiver, startHighest, setUpSender, setUpReceiver};
 use crate::LastNumber;
 use crate::Receiver;
@@ -57,7 +58,7 @@ impl Sender {
         tag_len: usize,
         cipher: Cipher,
     ) -> SenderSetUp
-        ensures { λ r. ⌜ r ≡ setUpSender (record { ssrc = ssrc; masterKey = now (key .entry); masterSalt = now (salt .entry); mki = now (mki .entry); tagLength = «tag_len»; cipher = cipher }) ⌝ }
+        ensures { λ r. ⌜ SenderSetUpShows (setUpSender (record { ssrc = ssrc; masterKey = now (key .entry); masterSalt = now (salt .entry); mki = now (mki .entry); tagLength = «tag_len»; cipher = cipher })) r ⌝ }
     {
         if !Session::set_up_listed(key.len(), salt.len(), mki.len(), tag_len) {
             return SenderSetUp {
@@ -99,7 +100,7 @@ impl Receiver {
         rollover: u32,
         number: LastNumber,
     ) -> ReceiverSetUp
-        ensures { λ r. ⌜ r ≡ setUpReceiver (record { ssrc = ssrc; masterKey = now (key .entry); masterSalt = now (salt .entry); mki = now (mki .entry); tagLength = «tag_len»; cipher = cipher }) rollover number ⌝ }
+        ensures { λ r. ⌜ ReceiverSetUpShows (setUpReceiver (record { ssrc = ssrc; masterKey = now (key .entry); masterSalt = now (salt .entry); mki = now (mki .entry); tagLength = «tag_len»; cipher = cipher }) rollover number) r ⌝ }
     {
         if !Session::set_up_listed(key.len(), salt.len(), mki.len(), tag_len) {
             return ReceiverSetUp {

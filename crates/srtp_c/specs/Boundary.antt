@@ -12,12 +12,11 @@ use Rattle.srtp.specs.declared.Answer.the-variants.{Sent, Refused}
 use Rattle.srtp.specs.declared.LastNumber.{LastNumber}
 use Rattle.srtp.specs.declared.LastNumber.the-variants.{Unknown, Known}
 use Rattle.srtp.specs.declared.SetUpAnswer.{SetUpAnswer}
-use Rattle.srtp.specs.declared.SetUpAnswer.the-variants as setup
 use Rattle.srtp.specs.declared.SenderSetUp as core-sender-set-up
 use Rattle.srtp.specs.declared.ReceiverSetUp as core-receiver-set-up
 use Rattle.srtp.specs.Refusals.{numberOf}
 use Rattle.srtp.specs.Contexts.{closedSender, closedReceiver, setUpSender, setUpReceiver}
-use Rattle.srtp.specs.Outcomes.{Outcome, refused, done, answerOf, bufferOf, shown}
+use Rattle.srtp.specs.Outcomes.{Outcome, refused, done, answerOf, bufferOf, shown, setUpShown}
 use Rattle.srtp.specs.Calls.{sendMedia, sendControl, receiveMedia, receiveControl}
 use Rattle.srtp_c.specs.declared.Answer.{Answer}
 use Rattle.srtp_c.specs.declared.Sender.{Sender}
@@ -65,8 +64,7 @@ receiverAfter a c = record { answer = a; next = c }
 
 -- ---- set-up: a cipher, or a mark for a known last number, that is not 0 or 1 is refused as SETUP
 abbrev pub setUpNumber : SetUpAnswer → ℕ
-setUpNumber setup.Ready = 0
-setUpNumber (setup.Refused n) = numberOf n
+setUpNumber a = setUpShown a .number
 
 abbrev pub numberGiven : (known number : ℕ) → LastNumber
 numberGiven known q = cond (eqb known 1) (Known q) Unknown

@@ -1,14 +1,12 @@
 -- Answers as bytes, big end first: op (1), refusal number, 0 or 255 (1), index (8), length (2), size of the outgoing buffer (2), and the
 -- whole outgoing buffer. Assumes nothing.
 use Prim.Native.Nat.{ℕ}
-use mathlib.Core.List.{List, [], _∷_, _++_}
+use mathlib.Core.List.{List, _∷_, _++_}
 use lib.ListN.{length}
 use Rattle.octets.specs.BigEndian.{toBytes}
-use Rattle.srtp.specs.Refusals.{numberOf}
+use Rattle.srtp.specs.Outcomes.{Shown, shown, setUpShown}
 use Rattle.srtp.specs.declared.Answer.{Answer}
-use Rattle.srtp.specs.declared.Answer.the-variants as answer
 use Rattle.srtp.specs.declared.SetUpAnswer.{SetUpAnswer}
-use Rattle.srtp.specs.declared.SetUpAnswer.the-variants as setup
 use Rattle.trace_records.specs.declared.Head.{Head}
 
 -- bytes before the buffer
@@ -29,11 +27,12 @@ numberAlone n = record { number = n; index = 0; len = 0 }
 abbrev pub misfitHead : Head
 misfitHead = numberAlone 255
 
--- a call: index and length of the finished packet, or a refusal
+-- a call, or a set-up: an answer in the terms of the table of refusals
+abbrev pub headOf : Shown → Head
+headOf s = record { number = s .number; index = s .index; len = s .len }
+
 abbrev pub callHead : Answer → Head
-callHead (answer.Sent n i) = record { number = 0; index = i; len = n }
-callHead (answer.Refused n) = numberAlone (numberOf n)
+callHead a = headOf (shown a)
 
 abbrev pub setUpHead : SetUpAnswer → Head
-setUpHead setup.Ready = numberAlone 0
-setUpHead (setup.Refused n) = numberAlone (numberOf n)
+setUpHead a = headOf (setUpShown a)

@@ -1,9 +1,10 @@
 -- `Receiver::receive_media` meets its contract: what its caller sees is the outcome of the definition. Assumes nothing.
-use mathlib.Core.Path.{_≡_, sym}
+use mathlib.Core.Path.{_≡_, sym, ap}
 use Prim.Native.Nat.{ℕ}
 use borrow.Author.Needs.{needs}
 use lib.ListN.{length}
 use denote.Ref.{now}
+use Rattle.replay.specs.declared.window.Marked.{Marked}
 use Rattle.srtp.specs.declared.receiving.MediaVerdict.the-variants as verdict
 use Rattle.srtp.proofs.ReceiveMediaRows.{Opens, media-refused, media-passed, media-shows}
 use Rattle.srtp.proofs.ReceiverReturns.{shows-refused}
@@ -43,7 +44,7 @@ same-length : tie.Need-same-length
 same-length c = search needs
 
 returns-2 : tie.Need-returns-2
-returns-2 c = media-shows (passed (c .before .before .before .before .before .before .before .before .before .before .before .before .before) (c .before .before .before .before .before .before .before .before .before .before .before .verdict2 .given .1)) (c .before .before .before .before .cipher-media .ensures) (c .mark .ensures)
+returns-2 c = media-shows (passed (c .before .before .before .before .before .before .before .before .before .before .before .before .before .before) (c .before .before .before .before .before .before .before .before .before .before .before .before .verdict2 .given .1)) (c .before .before .before .before .before .cipher-media .ensures) (ap (λ (m : Marked). m .next) (c .before .mark .ensures))
 
 pub receive-media-spec : {M : Type 1} → statement M
 receive-media-spec =

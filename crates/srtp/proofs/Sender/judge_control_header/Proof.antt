@@ -2,7 +2,7 @@ use mathlib.Core.Path.{_≡_}
 use native.Mathlib.Omega.{arith}
 use borrow.Author.Needs.{needs}
 use lib.ListN.{length}
-use Rattle.srtp.proofs.SenderRows.{sender-listed, control-stream, control-room, control-order, control-spent, control-index}
+use Rattle.srtp.proofs.SenderRows.{sender-listed, control-stream, control-room, control-spent, control-index}
 use Rattle.srtp.proofs.Sender.judge_control_header.Statement.{statement}
 use Rattle.srtp.proofs.Sender.judge_control_header.Tie as tie
 
@@ -25,8 +25,8 @@ add-need-3 c = let s = c .before .before .before .before .before .before in omeg
 returns-2 : tie.Need-returns-2
 returns-2 c = search (control-room, mki-long (c .before .before .before .before .before .before .before))
 
-next-index-requires : tie.Need-next-index-requires
-next-index-requires c κs = search needs
+step-requires : tie.Need-step-requires
+step-requires c κs = search needs
 
 enum-known-next : tie.Need-enum-known-next
 enum-known-next c = search needs
@@ -34,17 +34,11 @@ enum-known-next c = search needs
 enum-told : tie.Need-enum-told
 enum-told c = search needs
 
-enum-told-2 : tie.Need-enum-told-2
-enum-told-2 c = search needs
-
 returns-3 : tie.Need-returns-3
-returns-3 c = search (control-index, mki-long (c .before .before .before .before .before .before .before .before .before .before .before .before))
+returns-3 c = search (control-index, mki-long (c .before .before .before .before .before .before .before .before .before .before .before .before .before))
 
 returns-4 : tie.Need-returns-4
-returns-4 c = search (control-order, mki-long (c .before .before .before .before .before .before .before .before .before .before .before))
-
-returns-5 : tie.Need-returns-5
-returns-5 c = search (control-spent, mki-long (c .before .before .before .before .before .before .before .before .before .before .before))
+returns-4 c = search (control-spent, mki-long (c .before .before .before .before .before .before .before .before .before .before .before .before))
 
 pub judge-control-header-spec : {M : Type 1} → statement M
 judge-control-header-spec =
@@ -55,10 +49,8 @@ judge-control-header-spec =
     add-need-2
     add-need-3
     returns-2
-    next-index-requires
+    step-requires
     enum-known-next
     enum-told
-    enum-told-2
     returns-3
-    returns-4
-    returns-5)
+    returns-4)

@@ -22,8 +22,8 @@ add-need-2 c = let s = c .before .before .before .before .before .before .before
 returns-2 : tie.Need-returns-2
 returns-2 c = search (media-room, mki-long (c .before .before .before .before .before .before .before .before))
 
-next-index-requires : tie.Need-next-index-requires
-next-index-requires c κs = search needs
+step-requires : tie.Need-step-requires
+step-requires c κs = search needs
 
 enum-known-next : tie.Need-enum-known-next
 enum-known-next c = search needs
@@ -35,13 +35,13 @@ enum-told-2 : tie.Need-enum-told-2
 enum-told-2 c = search needs
 
 returns-3 : tie.Need-returns-3
-returns-3 c = search (media-index, mki-long (c .before .before .before .before .before .before .before .before .before .before .before .before .before))
+returns-3 c = search (media-index, mki-long (c .before .before .before .before .before .before .before .before .before .before .before .before .before .before))
 
 returns-4 : tie.Need-returns-4
-returns-4 c = search (media-order, mki-long (c .before .before .before .before .before .before .before .before .before .before .before .before))
+returns-4 c = search (media-order, mki-long (c .before .before .before .before .before .before .before .before .before .before .before .before .before))
 
 returns-5 : tie.Need-returns-5
-returns-5 c = search (media-spent, mki-long (c .before .before .before .before .before .before .before .before .before .before .before .before))
+returns-5 c = search (media-spent, mki-long (c .before .before .before .before .before .before .before .before .before .before .before .before .before))
 
 pub judge-media-header-spec : {M : Type 1} → statement M
 judge-media-header-spec =
@@ -51,7 +51,7 @@ judge-media-header-spec =
     add-need
     add-need-2
     returns-2
-    next-index-requires
+    step-requires
     enum-known-next
     enum-told
     enum-told-2

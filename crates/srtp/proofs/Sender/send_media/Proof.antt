@@ -21,10 +21,7 @@ enum-known-verdict-2 c = search needs
 
 protect-media-requires : tie.Need-protect-media-requires
 protect-media-requires c κs = let a = c .before .before .before .before .before .before .before .before .args in
-    media-ready (a .self) (now (a .packet)) (now (a .out)) _ (c .before .before .before .before .before .judge-media .ensures) _ _ (c .before .before .before .verdict2 .given .1) (mki-long (c .before .before .before .before .before .before .before .before))
-
-after-requires : tie.Need-after-requires
-after-requires c κs = search needs
+    media-ready (a .self) (now (a .packet)) (now (a .out)) _ (c .before .before .before .before .before .judge-media .ensures) _ _ _ (c .before .before .before .verdict2 .given .1) (mki-long (c .before .before .before .before .before .before .before .before))
 
 returns : tie.Need-returns
 returns c = let a = c .before .before .before .before .before .before .args in
@@ -34,8 +31,8 @@ same-length : tie.Need-same-length
 same-length c = search needs
 
 returns-2 : tie.Need-returns-2
-returns-2 c = let a = c .before .before .before .before .before .before .before .before .before .before .before .before .before .args in
-    media-shown (a .self) (now (a .packet)) (now (a .out)) _ (c .before .before .before .before .before .before .before .before .before .before .judge-media .ensures) _ _ (c .before .before .before .before .before .before .before .before .verdict2 .given .1) _ _ _ (c .before .before .before .before .protect-media .ensures) (c .after .ensures)
+returns-2 c = let a = c .before .before .before .before .before .before .before .before .before .before .before .args in
+    media-shown (a .self) (now (a .packet)) (now (a .out)) _ (c .before .before .before .before .before .before .before .before .judge-media .ensures) _ _ _ (c .before .before .before .before .before .before .verdict2 .given .1) _ _ (c .before .before .protect-media .ensures)
 
 pub send-media-spec : {M : Type 1} → statement M
 send-media-spec =
@@ -45,7 +42,6 @@ send-media-spec =
     enum-known-verdict
     enum-known-verdict-2
     protect-media-requires
-    after-requires
     returns
     same-length
     returns-2)

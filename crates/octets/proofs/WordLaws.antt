@@ -4,7 +4,9 @@ use mathlib.Core.Path.{_≡_, sym, ap, ap₂, _∙_}
 use Prim.Native.Nat.{ℕ, _+_, _-_, _*_, _/_, _%_, _^_, _<_, _≤_}
 use native.Mathlib.Nat.{mod-eq-of-lt, le-refl}
 use native.Mathlib.Omega.{arith}
+use lib.Bits.{bitOr, or-shifted}
 use lib.ListN.{length, take, drop, getD, length-drop}
+use lib.Pow.{shl-exact}
 use lib.Seq.{take-add, drop-drop, drop-cons, length-take-le}
 use Rattle.octets.specs.BigEndian.{toBytes, fromBytes}
 use Rattle.octets.specs.Buffer.{overAt}
@@ -24,14 +26,20 @@ module _ (n : ℕ) where
   two-parts : (s : List ℕ) (at : ℕ) → take (n + n) (drop at s) ≡ take n (drop at s) ++ take n (drop (at + n) s)
   two-parts s at = take-add n n (drop at s) ∙ ap (λ (l : List ℕ). take n (drop at s) ++ take n l) (drop-drop n at s)
 
-  pub word-join : (s : List ℕ) (at h l : ℕ) → at + (n + n) ≤ length s → l < 2 ^ (8 * n) → Word n s at h → Word n s (at + n) l
-      → Word (n + n) s at (h * 2 ^ (8 * n) + l)
-  word-join s at h l q b wh wl =
-      let e : length (take n (drop (at + n) s)) ≡ n = length-take-le n (drop (at + n) s) (omega (arith, length-drop (at + n) s)) in (
+  -- the upper half above the lower, in a word that holds both
+  shifted-or : (h l : ℕ) → h < 2 ^ (8 * n) → l < 2 ^ (8 * n) → bitOr ((h * 2 ^ (8 * n)) % 2 ^ (8 * (n + n))) l ≡ h * 2 ^ (8 * n) + l
+  shifted-or h l b c =
+      ap (λ (k : ℕ). bitOr k l) (shl-exact (8 * n) (8 * n) (8 * (n + n)) b (omega arith)) ∙ or-shifted h (8 * n) l c
+
+  pub word-join : (s : List ℕ) (at h l : ℕ) → at + (n + n) ≤ length s → h < 2 ^ (8 * n) → l < 2 ^ (8 * n) → Word n s at h → Word n s (at + n) l
+      → Word (n + n) s at (bitOr ((h * 2 ^ (8 * n)) % 2 ^ (8 * (n + n))) l)
+  word-join s at h l q b c wh wl =
+      let e : length (take n (drop (at + n) s)) ≡ n = length-take-le n (drop (at + n) s) (omega (arith, length-drop (at + n) s)) in
+      rw (shifted-or h l b c) (
         ap₂ (λ (x y : ℕ). x * 2 ^ (8 * n) + y) (wh .0) (wl .0)
             ∙ ap (λ (k : ℕ). fromBytes (take n (drop at s)) * 2 ^ (8 * k) + fromBytes (take n (drop (at + n) s))) (sym e)
             ∙ sym (ap fromBytes (two-parts s at) ∙ fromBytes-append (take n (drop at s)) (take n (drop (at + n) s))),
-        toBytes-join n n h l b ∙ ap₂ _++_ (wh .1) (wl .1) ∙ sym (two-parts s at),
+        toBytes-join n n h l c ∙ ap₂ _++_ (wh .1) (wl .1) ∙ sym (two-parts s at),
       )
 
   -- the upper half stored, and then the lower

@@ -13,7 +13,7 @@ pub fn load16(s: &[u8], at: usize) -> u16
     ensures number { λ r. ⌜ r ≡ fromBytes (take 2 (drop at (now (s .entry)))) ⌝ }
     ensures bytes { λ r. ⌜ toBytes 2 r ≡ take 2 (drop at (now (s .entry))) ⌝ }
 {
-    wide(s[at]) * 0x100 + wide(s[at + 1])
+    (wide(s[at]) << 8) | wide(s[at + 1])
 }
 
 fn wide(b: u8) -> u16
@@ -30,7 +30,7 @@ pub fn load32(s: &[u8], at: usize) -> u32
 {
     let high = load16(s, at) as u32;
     let low = load16(s, at + 2) as u32;
-    high * 0x1_0000 + low
+    (high << 16) | low
 }
 
 // The same of eight bytes.
@@ -41,7 +41,7 @@ pub fn load64(s: &[u8], at: usize) -> u64
 {
     let high = load32(s, at) as u64;
     let low = load32(s, at + 4) as u64;
-    high * 0x1_0000_0000 + low
+    (high << 32) | low
 }
 
 // Writes the two bytes of `v` over `d` from `at`.
@@ -89,9 +89,9 @@ pub fn copy_over(a: &[u8], d: &mut [u8])
     requires { ⌜ length (now a) ≤ length (now d) ⌝ }
     ensures { λ _. ⌜ now (d .exit) ≡ over (now (a .entry)) (now (d .entry)) ⌝ }
 {
-    let n = a.len();
+    let len = a.len();
     let mut i = 0;
-    while i < n {
+    while i < len {
         d[i] = a[i];
         i += 1;
     }

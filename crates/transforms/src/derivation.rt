@@ -5,32 +5,16 @@ ghost use Prim.Native.Nat.{ℕ, _+_, _^_, _≤_};
 ghost use lib.ListN.{length};
 ghost use Rattle.aes.specs.SBox.{SBoxTable};
 ghost use Rattle.aes.specs.KeyExpansion.{keyExpansion};
-ghost use Rattle.transforms.specs.KeyDerivation.{mediaLabel, controlLabel, derived, sessionKeys};
+ghost use Rattle.transforms.specs.KeyDerivation.{derived, sessionKeys};
 use crate::SessionKeys;
 use crate::counter_mode::initial_counter;
 use crate::counter_mode::keystream_over;
 
 impl SessionKeys {
-    // The labels of the cipher key.
+    // The labels of the cipher key, of media packets (4.3.1) and of control packets (4.3.2).
     pub const MEDIA_LABEL: u8 = 0;
 
     pub const CONTROL_LABEL: u8 = 3;
-
-    // The session keys of media packets (4.3.1).
-    pub fn media(t: &[u8; 256], key: [u8; 16], salt: [u8; 14]) -> SessionKeys
-        requires { ⌜ SBoxTable (now t) ⌝ }
-        ensures { λ r. ⌜ r ≡ sessionKeys mediaLabel key salt ⌝ }
-    {
-        SessionKeys::derive(t, SessionKeys::MEDIA_LABEL, key, salt)
-    }
-
-    // The session keys of control packets (4.3.2).
-    pub fn control(t: &[u8; 256], key: [u8; 16], salt: [u8; 14]) -> SessionKeys
-        requires { ⌜ SBoxTable (now t) ⌝ }
-        ensures { λ r. ⌜ r ≡ sessionKeys controlLabel key salt ⌝ }
-    {
-        SessionKeys::derive(t, SessionKeys::CONTROL_LABEL, key, salt)
-    }
 
     // The session keys whose first label is `label`: those of cipher key, authentication key and salt follow each other.
     pub fn derive(t: &[u8; 256], label: u8, key: [u8; 16], salt: [u8; 14]) -> SessionKeys

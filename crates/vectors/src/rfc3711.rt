@@ -108,7 +108,7 @@ fn master_salt() -> [u8; 14] {
 fn media_packet(t: &[u8; 256])
     requires { ⌜ SBoxTable (now t) ⌝ }
 {
-    let keys = SessionKeys::media(t, master_key(), master_salt());
+    let keys = SessionKeys::derive(t, SessionKeys::MEDIA_LABEL, master_key(), master_salt());
     let mut packet = [0u8; 28];
     hex::read(
         b"800f1234decafbadcafebabe00000000000000000000000000000000",
@@ -140,7 +140,7 @@ fn protect_media(t: &[u8; 256], keys: SessionKeys, packet: &mut [u8])
 fn control_packet(t: &[u8; 256])
     requires { ⌜ SBoxTable (now t) ⌝ }
 {
-    let keys = SessionKeys::control(t, master_key(), master_salt());
+    let keys = SessionKeys::derive(t, SessionKeys::CONTROL_LABEL, master_key(), master_salt());
     let mut packet = [0u8; 28];
     hex::read(
         b"81c8000bcafebabe0000000000000000000000000000000080000000",

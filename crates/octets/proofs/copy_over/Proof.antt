@@ -11,10 +11,10 @@ use Rattle.octets.proofs.copy_over.Statement.{statement}
 use Rattle.octets.proofs.copy_over.Tie as tie
 
 abbrev Inv-loop : tie.InvT-loop
-Inv-loop a d₀ n i₀ d i = (i ≤ n) × (length d ≡ length d₀) × (d ≡ over (take i a) d₀)
+Inv-loop a d₀ len i₀ d i = (i ≤ len) × (length d ≡ length d₀) × (d ≡ over (take i a) d₀)
 
 abbrev μ-loop : tie.MeasureT-loop
-μ-loop a d₀ n i₀ d i = n - i
+μ-loop a d₀ len i₀ d i = len - i
 
 loop-holds : tie.Need-loop-holds Inv-loop μ-loop
 loop-holds c = (search needs, search needs, none-over (c .args .a .now) (c .args .d .now) (c .pre))

@@ -12,9 +12,6 @@ shared-slice-read-wide c = search needs
 wide-requires : tie.Need-wide-requires
 wide-requires c κs = search needs
 
-mul-result : tie.Need-mul-result
-mul-result c = omega (arith, c .before .before .shared-slice-known .given (c .before .before .before .args .at))
-
 add-wide : tie.Need-add-wide
 add-wide c = search needs
 
@@ -24,16 +21,14 @@ shared-slice-read-wide-2 c = search needs
 wide-requires-2 : tie.Need-wide-requires-2
 wide-requires-2 c κs = search needs
 
-add-result : tie.Need-add-result
-add-result c = omega (arith, c .before .before .before .before .shared-slice-known .given (c .before .before .before .before .before .args .at), c .before .before .before .before .shared-slice-known .given (c .before .before .before .before .before .args .at + 1))
-
 returns : tie.Need-returns
 returns c =
     let s = c .before .before .before .before .before .args .s .now in
     let at = c .before .before .before .before .before .args .at in
     let b = c .before .before .before .before .shared-slice-known .given in
+    let high : c .before .before .wide .result < 2 ^ 8 = omega (arith, b at) in
     let low : c .wide2 .result < 2 ^ 8 = omega (arith, b (at + 1)) in
-    word-join 1 s at (c .before .before .wide .result) (c .wide2 .result) (omega arith) low
+    word-join 1 s at (c .before .before .wide .result) (c .wide2 .result) (omega arith) high low
     (subst (λ (x : ℕ). Word 1 s at x) (sym (c .before .before .wide .ensures)) (one-byte s at (omega arith) (omega (arith, b at))))
     (subst (λ (x : ℕ). Word 1 s (at + 1) x) (sym (c .wide2 .ensures)) (one-byte s (at + 1) (omega arith) (omega (arith, b (at + 1)))))
 
@@ -43,9 +38,7 @@ load16-spec =
     (tie.spec
     shared-slice-read-wide
     wide-requires
-    mul-result
     add-wide
     shared-slice-read-wide-2
     wide-requires-2
-    add-result
     returns)

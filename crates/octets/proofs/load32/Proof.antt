@@ -18,16 +18,10 @@ load16-requires-2 c κs = search needs
 cast-low : tie.Need-cast-low
 cast-low c = search needs
 
-mul-result : tie.Need-mul-result
-mul-result c = search needs
-
-add-result : tie.Need-add-result
-add-result c = search needs
-
 returns : tie.Need-returns
 returns c =
     let a = c .before .before .before .args in
-    word-join 2 (a .s .now) (a .at) (c .before .load16 .result) (c .load162 .result) (search needs) (search needs) (c .before .load16 .ensures) (c .load162 .ensures)
+    word-join 2 (a .s .now) (a .at) (c .before .load16 .result) (c .load162 .result) (search needs) (search needs) (search needs) (c .before .load16 .ensures) (c .load162 .ensures)
 
 pub load32-spec : {M : Type 1} → statement M
 load32-spec =
@@ -38,6 +32,4 @@ load32-spec =
     add-load16
     load16-requires-2
     cast-low
-    mul-result
-    add-result
     returns)

@@ -18,16 +18,10 @@ load32-requires-2 c κs = search needs
 cast-low : tie.Need-cast-low
 cast-low c = search needs
 
-mul-result : tie.Need-mul-result
-mul-result c = search needs
-
-add-result : tie.Need-add-result
-add-result c = search needs
-
 returns : tie.Need-returns
 returns c =
     let a = c .before .before .before .args in
-    word-join 4 (a .s .now) (a .at) (c .before .load32 .result) (c .load322 .result) (search needs) (search needs) (c .before .load32 .ensures) (c .load322 .ensures)
+    word-join 4 (a .s .now) (a .at) (c .before .load32 .result) (c .load322 .result) (search needs) (search needs) (search needs) (c .before .load32 .ensures) (c .load322 .ensures)
 
 pub load64-spec : {M : Type 1} → statement M
 load64-spec =
@@ -38,6 +32,4 @@ load64-spec =
     add-load32
     load32-requires-2
     cast-low
-    mul-result
-    add-result
     returns)

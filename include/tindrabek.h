@@ -8,6 +8,7 @@
  * What a caller must see to, since nothing checks it:
  *  - each pointer is valid for its count of bytes (with a count of 0 the pointer is not followed and may be NULL), and a context's pointer
  *    is valid and aligned as its type asks;
+ *  - the context is writable in every call, refused ones included: a refusal writes back the value that it held;
  *  - context, packet and outgoing buffer do not overlap in any part: no packet is protected or opened in place;
  *  - one call at a time uses a context;
  *  - no two senders are set up with one master key, master salt and SSRC, and no copy of a sender's struct is used beside it: both would
@@ -28,6 +29,10 @@ extern "C" {
 #define TINDRABEK_ASSERT _Static_assert
 #endif
 
+/* The library has these sizes and places built in. */
+#define TINDRABEK_SIZE(type, size) TINDRABEK_ASSERT(sizeof(type) == (size), #type)
+#define TINDRABEK_PLACE(type, field, place) TINDRABEK_ASSERT(offsetof(type, field) == (place), #type "." #field)
+
 /* ---- numbers */
 
 /* What a call answers: TINDRABEK_OK, or why it refuses. A number is given exactly when its line holds and no earlier line that concerns
@@ -35,7 +40,7 @@ extern "C" {
  * call changes neither the context nor one byte of the outgoing buffer. */
 enum {
     TINDRABEK_OK = 0,      /* a finished packet */
-    TINDRABEK_SETUP = 1,   /* set-up values off the list; every call on a closed context or on a context whose values no set-up gives */
+    TINDRABEK_SETUP = 1,   /* set-up values off the list; every call on a closed context or on one that is out of bounds (see contexts) */
     TINDRABEK_LONG = 2,    /* the plain packet is, or the protected one would give, over 2,048 bytes */
     TINDRABEK_SHAPE = 3,   /* no RTP, RTCP, SRTP or SRTCP layout */
     TINDRABEK_STREAM = 4,  /* the packet's SSRC is not the context's */
@@ -67,7 +72,14 @@ enum {
 };
 
 /* ---- contexts. The fields are the library's: keep them, move them and copy them (a sender's with care, see above), and leave their
- * content alone. They hold session keys: clear the memory when a stream ends. */
+ * content alone. They hold session keys: clear the memory when a stream ends. Copies that a call leaves on the stack are not cleared.
+ *
+ * Out of bounds, and refused as SETUP in every call, is a context with
+ *  - a length off the list above: `tag_len` not 4 or 10 (0 in a closed context), `mki_len` over 4;
+ *  - a mark beyond its bound: `last_index` or media `highest` above 2^48 - 1, control `highest` above 2^31 - 1, `control_sent` above 2^31
+ *    (where `has_last` or `has_highest` is 0, the index that goes with it is not looked at);
+ *  - a number that no enum has: `cipher`, `has_last` or `has_highest` above 1.
+ * Any other is answered by the rules, with the keys and marks found in it, whether a set-up gave them or not. */
 
 typedef struct {
     uint32_t a, b, c, d, e;
@@ -110,10 +122,29 @@ typedef struct {
     tindrabek_window control;
 } tindrabek_receiver;
 
-TINDRABEK_ASSERT(sizeof(tindrabek_keys) == 232, "tindrabek_keys");
-TINDRABEK_ASSERT(sizeof(tindrabek_session) == 496, "tindrabek_session");
-TINDRABEK_ASSERT(sizeof(tindrabek_sender) == 520, "tindrabek_sender");
-TINDRABEK_ASSERT(sizeof(tindrabek_receiver) == 552, "tindrabek_receiver");
+TINDRABEK_SIZE(tindrabek_hash_state, 20);
+TINDRABEK_SIZE(tindrabek_keys, 232);
+TINDRABEK_PLACE(tindrabek_keys, inner, 176);
+TINDRABEK_PLACE(tindrabek_keys, outer, 196);
+TINDRABEK_PLACE(tindrabek_keys, salt, 216);
+TINDRABEK_SIZE(tindrabek_session, 496);
+TINDRABEK_PLACE(tindrabek_session, ssrc, 4);
+TINDRABEK_PLACE(tindrabek_session, tag_len, 8);
+TINDRABEK_PLACE(tindrabek_session, mki_len, 16);
+TINDRABEK_PLACE(tindrabek_session, mki, 24);
+TINDRABEK_PLACE(tindrabek_session, media, 28);
+TINDRABEK_PLACE(tindrabek_session, control, 260);
+TINDRABEK_SIZE(tindrabek_sender, 520);
+TINDRABEK_PLACE(tindrabek_sender, has_last, 496);
+TINDRABEK_PLACE(tindrabek_sender, last_index, 504);
+TINDRABEK_PLACE(tindrabek_sender, control_sent, 512);
+TINDRABEK_SIZE(tindrabek_window, 24);
+TINDRABEK_PLACE(tindrabek_window, highest, 8);
+TINDRABEK_PLACE(tindrabek_window, bits, 16);
+TINDRABEK_SIZE(tindrabek_receiver, 552);
+TINDRABEK_PLACE(tindrabek_receiver, rollover, 496);
+TINDRABEK_PLACE(tindrabek_receiver, media, 504);
+TINDRABEK_PLACE(tindrabek_receiver, control, 528);
 
 /* ---- answers */
 
@@ -136,9 +167,17 @@ typedef struct {
     tindrabek_receiver context;
 } tindrabek_receiver_set_up_answer;
 
-TINDRABEK_ASSERT(sizeof(tindrabek_answer) == 24, "tindrabek_answer");
-TINDRABEK_ASSERT(sizeof(tindrabek_sender_set_up_answer) == 528, "tindrabek_sender_set_up_answer");
-TINDRABEK_ASSERT(sizeof(tindrabek_receiver_set_up_answer) == 560, "tindrabek_receiver_set_up_answer");
+TINDRABEK_SIZE(tindrabek_answer, 24);
+TINDRABEK_PLACE(tindrabek_answer, len, 8);
+TINDRABEK_PLACE(tindrabek_answer, index, 16);
+TINDRABEK_SIZE(tindrabek_sender_set_up_answer, 528);
+TINDRABEK_PLACE(tindrabek_sender_set_up_answer, context, 8);
+TINDRABEK_SIZE(tindrabek_receiver_set_up_answer, 560);
+TINDRABEK_PLACE(tindrabek_receiver_set_up_answer, context, 8);
+
+#undef TINDRABEK_PLACE
+#undef TINDRABEK_SIZE
+#undef TINDRABEK_ASSERT
 
 /* ---- set-up */
 

@@ -63,6 +63,36 @@ static void tell_opened(const char *what, size_t clear, tindrabek_answer a, cons
         printf("receiver: %s: refused as %s\n", what, refusals[a.number]);
 }
 
+/* Three media packets across the rollover, one of them twice, and a report. What comes out goes to `sent` and `sent_report`. */
+static void send_all(tindrabek_sender *sender, buffer sent[3], buffer *sent_report) {
+    const buffer plain[3] = {rtp(65534, "lot 41, two bids"), rtp(65535, "lot 41, sold"), rtp(0, "lot 42, one bid")};
+    const char *const names[3] = {"media 65534", "media 65535", "media 0"};
+    for (int i = 0; i < 3; i++) {
+        tindrabek_answer a = tindrabek_send_media(sender, plain[i].bytes, plain[i].len, sent[i].bytes, ROOM);
+        tell_sent(names[i], plain[i].len, a);
+        sent[i].len = a.len;
+    }
+    uint8_t out[ROOM];
+    tell_sent("media 0 again", plain[2].len, tindrabek_send_media(sender, plain[2].bytes, plain[2].len, out, ROOM));
+    const buffer report = rtcp("all is well.");
+    tindrabek_answer a = tindrabek_send_control(sender, report.bytes, report.len, sent_report->bytes, ROOM);
+    tell_sent("control", report.len, a);
+    sent_report->len = a.len;
+}
+
+/* The first packet damaged before it comes whole, the second late, the third twice; the report into a short buffer and again. */
+static void receive_all(tindrabek_receiver *receiver, const buffer sent[3], const buffer *report) {
+    buffer damaged = sent[0];
+    damaged.bytes[20] ^= 4;
+    const buffer *const arrivals[5] = {&damaged, &sent[0], &sent[2], &sent[1], &sent[2]};
+    const char *const names[5] = {"media 65534, damaged", "media 65534", "media 0", "media 65535, late", "media 0 again"};
+    uint8_t out[ROOM] = {0};
+    for (int i = 0; i < 5; i++)
+        tell_opened(names[i], 12, tindrabek_receive_media(receiver, arrivals[i]->bytes, arrivals[i]->len, out, ROOM), out);
+    tell_opened("control, short buffer", 8, tindrabek_receive_control(receiver, report->bytes, report->len, out, 19), out);
+    tell_opened("control", 8, tindrabek_receive_control(receiver, report->bytes, report->len, out, ROOM), out);
+}
+
 int main(void) {
     uint8_t key[TINDRABEK_KEY_LEN], salt[TINDRABEK_SALT_LEN];
     const uint8_t mki[1] = {1};
@@ -77,36 +107,14 @@ int main(void) {
         return 1;
     }
 
-    const buffer plain[3] = {rtp(65534, "lot 41, two bids"), rtp(65535, "lot 41, sold"), rtp(0, "lot 42, one bid")};
-    const char *const names[3] = {"media 65534", "media 65535", "media 0"};
-    buffer sent[3];
-    for (int i = 0; i < 3; i++) {
-        tindrabek_answer a = tindrabek_send_media(&s.context, plain[i].bytes, plain[i].len, sent[i].bytes, ROOM);
-        tell_sent(names[i], plain[i].len, a);
-        sent[i].len = a.len;
-    }
-    uint8_t out[ROOM] = {0};
-    tell_sent("media 0 again", plain[2].len, tindrabek_send_media(&s.context, plain[2].bytes, plain[2].len, out, ROOM));
-    const buffer report = rtcp("all is well.");
-    buffer sent_report;
-    tindrabek_answer a = tindrabek_send_control(&s.context, report.bytes, report.len, sent_report.bytes, ROOM);
-    tell_sent("control", report.len, a);
-    sent_report.len = a.len;
-
-    buffer damaged = sent[0];
-    damaged.bytes[20] ^= 4;
-    const buffer *const arrivals[5] = {&damaged, &sent[0], &sent[2], &sent[1], &sent[2]};
-    const char *const arrival_names[5] = {"media 65534, damaged", "media 65534", "media 0", "media 65535, late", "media 0 again"};
-    for (int i = 0; i < 5; i++) {
-        a = tindrabek_receive_media(&r.context, arrivals[i]->bytes, arrivals[i]->len, out, ROOM);
-        tell_opened(arrival_names[i], 12, a, out);
-    }
-    a = tindrabek_receive_control(&r.context, sent_report.bytes, sent_report.len, out, 19);
-    tell_opened("control, short buffer", 8, a, out);
-    a = tindrabek_receive_control(&r.context, sent_report.bytes, sent_report.len, out, ROOM);
-    tell_opened("control", 8, a, out);
+    buffer sent[3], report;
+    send_all(&s.context, sent, &report);
+    receive_all(&r.context, sent, &report);
 
     s = tindrabek_sender_set_up(SSRC, key, sizeof key, salt, sizeof salt, mki, sizeof mki, 5, TINDRABEK_CIPHER_AES);
-    printf("set-up:   a tag of 5 bytes: %s%s\n", s.number == TINDRABEK_OK ? "taken" : "refused as ", s.number == TINDRABEK_OK ? "" : refusals[s.number]);
+    if (s.number == TINDRABEK_OK)
+        printf("set-up:   a tag of 5 bytes: taken\n");
+    else
+        printf("set-up:   a tag of 5 bytes: refused as %s\n", refusals[s.number]);
     return 0;
 }

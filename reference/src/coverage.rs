@@ -31,15 +31,22 @@ fn reachable_outcomes(call: Call) -> Vec<u8> {
 pub struct Coverage {
     cells: BTreeMap<(Call, u8), u64>,
     unknown_ops: u64,
+    calls: u64,
 }
 
 impl Coverage {
     /// Counts an answer.
     pub fn count(&mut self, answer: &Answer) {
+        self.calls += u64::from(answer.is_to_a_call());
         match Call::from_op(answer.op) {
             Some(call) => *self.cells.entry((call, answer.outcome)).or_default() += 1,
             None => self.unknown_ops += 1,
         }
+    }
+
+    /// How many answers were to calls. Those to records that don't fit are not among them.
+    pub fn calls(&self) -> u64 {
+        self.calls
     }
 
     /// How often the call had the outcome.
@@ -74,7 +81,7 @@ pub fn outcome_name(outcome: u8) -> String {
     }
 }
 
-/// One row an outcome, one column a call; a dot stands where no trace can lead.
+/// One row an outcome, one column a call; a dot stands where no trace can lead. Then the sums.
 impl fmt::Display for Coverage {
     fn fmt(&self, f: &mut fmt::Formatter<'_>) -> fmt::Result {
         write!(f, "{:9}", "")?;
@@ -91,6 +98,6 @@ impl fmt::Display for Coverage {
                 }
             }
         }
-        write!(f, "\nunknown op: {}", self.unknown_ops)
+        write!(f, "\nunknown op: {}\ncalls: {}", self.unknown_ops, self.calls)
     }
 }

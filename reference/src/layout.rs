@@ -51,7 +51,7 @@ impl RtpHeader {
 pub fn rtcp_ssrc(bytes: &[u8]) -> Option<u32> {
     let first = *bytes.first()?;
     let well_formed =
-        bytes.len() >= RTCP_CLEAR_LENGTH && bytes.len().is_multiple_of(4) && first >> 6 == VERSION;
+        bytes.len() >= RTCP_CLEAR_LENGTH && bytes.len() % 4 == 0 && first >> 6 == VERSION;
     if well_formed {
         u32_at(bytes, 4)
     } else {

@@ -2,7 +2,7 @@
 
 use reference::compare::Report;
 use reference::generate::make_trace;
-use reference::trace::answer_trace;
+use reference::trace::{answer_trace, Call, Record};
 use std::process::{Command, Output};
 
 fn compare(program: &str, seed: u64, calls: u64) -> Output {
@@ -23,9 +23,26 @@ fn the_reference_passes() {
     let line = last_line(&output);
     assert!(output.status.success(), "{}", String::from_utf8_lossy(&output.stdout));
     assert!(line.ends_with(" passed, 0 failed"), "{line}");
-    let passed: u64 = line.split(' ').next().unwrap().parse().unwrap();
-    assert!(passed >= 30_000);
-    assert!(String::from_utf8_lossy(&output.stdout).starts_with("seed 7\n"));
+    let text = String::from_utf8_lossy(&output.stdout);
+    assert!(text.starts_with("seed 7\n"));
+    let number = |text: &str| text.parse::<u64>().unwrap();
+    let passed = number(line.split(' ').next().unwrap());
+    let calls = number(text.lines().find_map(|line| line.strip_prefix("calls: ")).unwrap());
+    // The records that don't fit are compared as well, and are no calls.
+    assert!((30_000..passed).contains(&calls), "{calls} calls, {passed} passed");
+}
+
+#[test]
+fn records_that_do_not_fit_are_no_calls() {
+    let mut trace = Vec::new();
+    let media = Call::SendMedia.op();
+    // A call on the closed context, a call without the size of its buffer, and an unknown op.
+    for (op, body) in [(media, &[0, 9, 0x80][..]), (media, &[0]), (77, &[0, 9, 0x80])] {
+        Record { op, body }.write(&mut trace);
+    }
+    let mut report = Report::default();
+    report.compare(&trace, &answer_trace(&trace));
+    assert_eq!((report.passed, report.failed, report.coverage.calls()), (3, 0, 1));
 }
 
 #[test]

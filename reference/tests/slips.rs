@@ -7,6 +7,7 @@ use reference::index::{self, MAX_MEDIA_INDEX};
 use reference::layout::{ProtectedControl, ProtectedMedia, RtpHeader};
 use reference::refusal::Refusal;
 use reference::replay::ReplayList;
+use reference::session::Session;
 use reference::settings::{Cipher, Settings};
 use reference::trace::{Answer, Call, Contexts, Record, Records, Request, FINISHED, MISFIT};
 
@@ -42,11 +43,16 @@ impl Done<'_> {
     }
 
     fn distance(&self) -> i128 {
-        self.before
-            .receiver
-            .media
-            .highest
-            .map_or(0, |highest| self.estimate() - i128::from(highest))
+        ahead_of(self.before.receiver.media.highest, self.estimate())
+    }
+
+    /// The parts of a received control packet that has the layout.
+    fn control(&self) -> ProtectedControl<'_> {
+        ProtectedControl::read(self.packet, &self.settings()).unwrap()
+    }
+
+    fn control_distance(&self) -> i128 {
+        ahead_of(self.before.receiver.control.highest, i128::from(self.control().index))
     }
 
     /// Refuses after all.
@@ -76,6 +82,20 @@ impl Done<'_> {
         let answer = receiver.receive_media(self.packet, &mut buffer);
         Answer::to_call(self.answer.op, answer, buffer)
     }
+
+    /// What a receiver with nothing accepted says to the control packet.
+    fn control_answer(&self) -> Answer {
+        let control = ReplayList::default();
+        let mut receiver = Receiver { control, ..self.before.receiver.clone() };
+        let mut buffer = vec![0xa5; self.room];
+        let answer = receiver.receive_control(self.packet, &mut buffer);
+        Answer::to_call(self.answer.op, answer, buffer)
+    }
+}
+
+/// How far an index is ahead of H; 0 without one.
+fn ahead_of(highest: Option<u64>, index: i128) -> i128 {
+    highest.map_or(0, |highest| index - i128::from(highest))
 }
 
 type Slip = (&'static str, fn(&mut Done));
@@ -108,6 +128,15 @@ const SLIPS: &[Slip] = &[
             d.answer.buffer[end - settings.media_expansion()..end].rotate_left(settings.mki.len());
         }
     }),
+    ("the tag covers the MKI", |d| {
+        if d.finished(SendMedia) {
+            let Session { settings, media, .. } = d.before.sender.session.as_ref().unwrap();
+            let count = index::rollover_count(d.answer.index).to_be_bytes();
+            let packet = &mut d.answer.buffer[..usize::from(d.answer.length)];
+            let (covered, tag) = packet.split_at_mut(packet.len() - settings.media_tag_length);
+            tag.copy_from_slice(&media.tag.mac(&[covered, &count])[..tag.len()]);
+        }
+    }),
     ("an index below zero is opened near 2^48", |d| {
         if d.refused(ReceiveMedia, Refusal::Old) && d.estimate() < 0 {
             d.open_at((d.estimate() + i128::from(MAX_MEDIA_INDEX) + 1) as u64);
@@ -130,6 +159,16 @@ const SLIPS: &[Slip] = &[
     }),
     ("the window spans 63", |d| {
         if d.finished(ReceiveMedia) && d.distance() == -63 {
+            d.refuse(Refusal::Old);
+        }
+    }),
+    ("the control window spans 65", |d| {
+        if d.refused(ReceiveControl, Refusal::Old) && d.control_distance() == -64 {
+            *d.answer = d.control_answer();
+        }
+    }),
+    ("the control window spans 63", |d| {
+        if d.finished(ReceiveControl) && d.control_distance() == -63 {
             d.refuse(Refusal::Old);
         }
     }),
@@ -189,12 +228,9 @@ const SLIPS: &[Slip] = &[
         }
     }),
     ("the cipher decides, not the E bit", |d| {
-        if d.finished(ReceiveControl) {
-            let settings = d.settings();
-            let e_bit = ProtectedControl::read(d.packet, &settings).unwrap().is_enciphered;
-            if e_bit != (settings.cipher != Cipher::Null) {
-                d.refuse(Refusal::Forged);
-            }
+        let differs = |d: &Done| d.control().is_enciphered != (d.settings().cipher != Cipher::Null);
+        if d.finished(ReceiveControl) && differs(d) {
+            d.refuse(Refusal::Forged);
         }
     }),
     ("the header may reach into MKI and tag", |d| {
@@ -260,6 +296,11 @@ const SLIPS: &[Slip] = &[
     }),
     ("FORGED before REPEAT", |d| {
         if d.refused(ReceiveMedia, Refusal::Repeat) && !d.has_good_tag() {
+            d.refuse(Refusal::Forged);
+        }
+    }),
+    ("control: FORGED before REPEAT", |d| {
+        if d.refused(ReceiveControl, Refusal::Repeat) && d.control_answer().outcome != FINISHED {
             d.refuse(Refusal::Forged);
         }
     }),

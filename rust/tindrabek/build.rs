@@ -14,6 +14,10 @@ fn main() {
     println!("cargo:rerun-if-env-changed=TINDRABEK_LIB_DIR");
     println!("cargo:rerun-if-changed={}", library.display());
     assert!(library.exists(), "{} is not there: run `rt staticlib srtp_c` in the repository's root, or set TINDRABEK_LIB_DIR", library.display());
+    // A full path, since other crates' builds run in other folders.
+    let dir = dir.canonicalize().expect("a folder that is there has a full path");
     println!("cargo:rustc-link-search=native={}", dir.display());
     println!("cargo:rustc-link-lib=static=srtp_c");
+    // For the build scripts of crates that use this one: DEP_SRTP_C_DIR.
+    println!("cargo:dir={}", dir.display());
 }

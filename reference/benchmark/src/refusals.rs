@@ -1,6 +1,7 @@
 //! The time of a refused call, for every refusal that a media call can be brought to give.
 //!
-//! A sender's SPENT is left out: no set-up starts a sender near the last index.
+//! Left out are control's refusals, and a sender's SPENT: no set-up starts a sender near the last
+//! index.
 
 use crate::clock::timed;
 use crate::implementations::{Link, Settings, ORDINARY, PLAIN, PROVED, TAG_LENGTH};
@@ -106,7 +107,8 @@ impl Case {
 /// Every case, proved beside ordinary Rust.
 pub fn print() {
     println!("### Refusals\n");
-    println!("Packets of {LENGTH} bytes but for LONG; {ROUNDS} rounds of each.\n");
+    println!("Media packets of {LENGTH} bytes but for LONG; {ROUNDS} rounds of each. Control's");
+    println!("refusals and a sender's SPENT are left out.\n");
     head(&["refusal", "call", "proved, ns", "ordinary Rust, ns", "rate", "middle half"]);
     let mut out = vec![0; ROOM];
     for case in cases() {

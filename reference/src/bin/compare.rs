@@ -23,7 +23,7 @@ fn run() -> Result<bool, String> {
         report
             .compare_program(&program, &trace)
             .map_err(|error| format!("{}: {error}", program.display()))?;
-        let left = calls.saturating_sub(report.passed + report.failed);
+        let left = calls.saturating_sub(report.coverage.calls());
         if left == 0 {
             return Ok(tell(&report));
         }

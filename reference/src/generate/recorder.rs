@@ -11,7 +11,7 @@ pub struct Recorder {
 }
 
 impl Recorder {
-    /// How many records there are.
+    /// How many records are calls: those that fit.
     pub fn calls(&self) -> usize {
         self.calls
     }
@@ -30,8 +30,9 @@ impl Recorder {
     pub fn record(&mut self, op: u8, body: &[u8]) -> Answer {
         let record = Record { op, body };
         record.write(&mut self.trace);
-        self.calls += 1;
-        self.contexts.answer(&record)
+        let answer = self.contexts.answer(&record);
+        self.calls += usize::from(answer.is_to_a_call());
+        answer
     }
 
     /// Adds a call on a packet, with an outgoing buffer of `room` bytes.

@@ -49,6 +49,11 @@ impl Answer {
         }
     }
 
+    /// Whether a call was made: whether the record had a known op and fitted.
+    pub fn is_to_a_call(&self) -> bool {
+        self.outcome != MISFIT
+    }
+
     /// The finished packet, if there is one.
     pub fn packet(&self) -> Option<&[u8]> {
         let packet = self.buffer.get(..usize::from(self.length))?;

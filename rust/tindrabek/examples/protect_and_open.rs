@@ -50,17 +50,11 @@ fn open(what: &str, clear: usize, answer: Result<Packet, Refusal>, out: &[u8]) {
     }
 }
 
-fn main() -> Result<(), Refusal> {
-    let (key, salt) = ([0x2a; 16], [0x17; 14]);
-    let set_up =
-        SetUp { ssrc: SSRC, key: &key, salt: &salt, mki: &[1], tag_len: 10, cipher: Cipher::Aes };
-    let mut sender = Sender::set_up(&set_up)?;
-    let mut receiver = Receiver::set_up(&set_up, 0, None)?;
+/// Three media packets across the rollover, one of them twice, and a report. Gives what came out: media, and the report.
+fn send_all(sender: &mut Sender) -> (Vec<Vec<u8>>, Vec<u8>) {
     let mut out = [0; MAX_RESULT_LEN];
-
     let plain =
         [rtp(65_534, "lot 41, two bids"), rtp(65_535, "lot 41, sold"), rtp(0, "lot 42, one bid")];
-    let report = rtcp("all is well.");
     let mut sent = Vec::new();
     for (packet, number) in plain.iter().zip([65_534, 65_535, 0]) {
         let answer = sender.send_media(packet, &mut out);
@@ -68,9 +62,14 @@ fn main() -> Result<(), Refusal> {
     }
     let answer = sender.send_media(&plain[2], &mut out);
     protect("media 0 again", &plain[2], answer, &out);
+    let report = rtcp("all is well.");
     let answer = sender.send_control(&report, &mut out);
-    let sent_report = protect("control", &report, answer, &out);
+    (sent, protect("control", &report, answer, &out))
+}
 
+/// The first packet damaged before it comes whole, the second late, the third twice; the report into a short buffer and again.
+fn receive_all(receiver: &mut Receiver, sent: &[Vec<u8>], report: &[u8]) {
+    let mut out = [0; MAX_RESULT_LEN];
     let mut damaged = sent[0].clone();
     damaged[20] ^= 4;
     for (what, packet) in [
@@ -83,11 +82,18 @@ fn main() -> Result<(), Refusal> {
         let answer = receiver.receive_media(packet, &mut out);
         open(what, 12, answer, &out);
     }
-    let answer = receiver.receive_control(&sent_report, &mut out[..19]);
+    let answer = receiver.receive_control(report, &mut out[..19]);
     open("control, short buffer", 8, answer, &out);
-    let answer = receiver.receive_control(&sent_report, &mut out);
+    let answer = receiver.receive_control(report, &mut out);
     open("control", 8, answer, &out);
+}
 
+fn main() -> Result<(), Refusal> {
+    let (key, salt) = ([0x2a; 16], [0x17; 14]);
+    let set_up =
+        SetUp { ssrc: SSRC, key: &key, salt: &salt, mki: &[1], tag_len: 10, cipher: Cipher::Aes };
+    let (sent, report) = send_all(&mut Sender::set_up(&set_up)?);
+    receive_all(&mut Receiver::set_up(&set_up, 0, None)?, &sent, &report);
     match Sender::set_up(&SetUp { tag_len: 5, ..set_up }) {
         Ok(_) => println!("set-up:   a tag of 5 bytes: taken"),
         Err(refusal) => println!("set-up:   a tag of 5 bytes: refused as {refusal}"),

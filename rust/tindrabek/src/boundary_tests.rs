@@ -1,11 +1,12 @@
-//! What only a caller of the boundary itself can do: contexts whose values no set-up gives, numbers that no enum has, null pointers, and
-//! that a refused call leaves every field as it was.
+//! What only a caller of the boundary itself can see or do: contexts out of bounds or far along, numbers that no enum has, null pointers,
+//! that a refused call leaves every field as it was, and that a dropped context is cleared.
 use crate::boundary::{
     tindrabek_receive_control, tindrabek_receive_media, tindrabek_receiver_set_up,
     tindrabek_send_control, tindrabek_send_media, tindrabek_sender_set_up,
-    Receiver as PlainReceiver, Sender as PlainSender,
+    Receiver as PlainReceiver, ReceiverSetUp, Sender as PlainSender, SenderSetUp,
 };
 use crate::{Cipher, Receiver, Refusal, Sender, SetUp};
+use core::mem::{size_of, MaybeUninit};
 
 const KEY: [u8; 16] = [7; 16];
 const SALT: [u8; 14] = [9; 14];
@@ -55,10 +56,32 @@ fn a_sender_without_an_index_left_is_spent() {
     assert_eq!(s.send_control(&RTCP, &mut out), Err(Refusal::Spent));
 }
 
-// Each makes a value that row 1 of the table refuses: a length or a mark off its list, or a number that no enum has.
+// Indices that no test sends its way to: the rollover counter at 2^16, at 2^31 and at its last value. The reference made the bytes:
+// `Session::made_media` under this set-up, of the packet that `rtp` gives, at each index.
 #[test]
-fn contexts_that_no_set_up_gives_are_refused_and_left_alone() {
-    let senders: [fn(&mut PlainSender); 9] = [
+fn packets_after_many_rollovers() {
+    for (index, protected) in [
+        (0x0001_0000_0000, "80000000000000000102030449553b0506ad2feb578168c86030ba"),
+        (0x8000_0000_7fff, "80007fff0000000001020304e61b760506c7e6f578e055f66e572d"),
+        (0xffff_ffff_ffff, "8000ffff00000000010203044186c3050610fd11dca61439cbea34"),
+    ] {
+        let (mut out, mut opened) = ([0; 100], [0; 100]);
+        let mut s = sender();
+        (s.0.has_last, s.0.last_index) = (1, index - 1);
+        let plain = rtp(index as u16);
+        let sent = s.send_media(&plain, &mut out).unwrap();
+        let bytes: String = out[..sent.len].iter().map(|byte| format!("{byte:02x}")).collect();
+        assert_eq!((sent.index, &bytes[..]), (index, protected));
+        let mut r = Receiver::set_up(&set_up(), (index >> 16) as u32, None).unwrap();
+        let received = r.receive_media(&out[..sent.len], &mut opened).unwrap();
+        assert_eq!((received.index, &opened[..received.len]), (index, &plain[..]));
+    }
+}
+
+// Each change makes a value that is refused as SETUP: a length off the list, a mark beyond its bound, or a number that no enum has.
+#[test]
+fn senders_out_of_bounds_are_refused_and_left_alone() {
+    let changes: [fn(&mut PlainSender); 9] = [
         |s| s.session.cipher = 2,
         |s| s.session.cipher = u32::MAX,
         |s| s.has_last = 2,
@@ -69,16 +92,20 @@ fn contexts_that_no_set_up_gives_are_refused_and_left_alone() {
         |s| (s.has_last, s.last_index) = (1, 1 << 48),
         |s| s.control_sent = (1 << 31) + 1,
     ];
-    for (at, change) in senders.iter().enumerate() {
+    for (at, change) in changes.iter().enumerate() {
         let mut s = sender();
         change(&mut s.0);
         let was = s.0;
         let mut out = [0xa5; 100];
-        assert_eq!(s.send_media(&rtp(1), &mut out), Err(Refusal::Setup), "sender {at}");
-        assert_eq!(s.send_control(&RTCP, &mut out), Err(Refusal::Setup), "sender {at}");
-        assert!(s.0 == was && out == [0xa5; 100], "sender {at}");
+        assert_eq!(s.send_media(&rtp(1), &mut out), Err(Refusal::Setup), "change {at}");
+        assert_eq!(s.send_control(&RTCP, &mut out), Err(Refusal::Setup), "change {at}");
+        assert!(s.0 == was && out == [0xa5; 100], "change {at}");
     }
-    let receivers: [fn(&mut PlainReceiver); 9] = [
+}
+
+#[test]
+fn receivers_out_of_bounds_are_refused_and_left_alone() {
+    let changes: [fn(&mut PlainReceiver); 9] = [
         |r| r.session.cipher = 2,
         |r| r.media.has_highest = 2,
         |r| r.control.has_highest = u32::MAX,
@@ -91,28 +118,21 @@ fn contexts_that_no_set_up_gives_are_refused_and_left_alone() {
     ];
     let mut protected = [0; 100];
     let sent = sender().send_media(&rtp(1), &mut protected).unwrap();
-    for (at, change) in receivers.iter().enumerate() {
+    let protected = &protected[..sent.len];
+    for (at, change) in changes.iter().enumerate() {
         let mut r = receiver();
         change(&mut r.0);
         let was = r.0;
         let mut out = [0xa5; 100];
-        assert_eq!(
-            r.receive_media(&protected[..sent.len], &mut out),
-            Err(Refusal::Setup),
-            "receiver {at}"
-        );
-        assert_eq!(
-            r.receive_control(&protected[..sent.len], &mut out),
-            Err(Refusal::Setup),
-            "receiver {at}"
-        );
-        assert!(r.0 == was && out == [0xa5; 100], "receiver {at}");
+        assert_eq!(r.receive_media(protected, &mut out), Err(Refusal::Setup), "change {at}");
+        assert_eq!(r.receive_control(protected, &mut out), Err(Refusal::Setup), "change {at}");
+        assert!(r.0 == was && out == [0xa5; 100], "change {at}");
     }
 }
 
 // What a mark says of a field that it makes void is not looked at, and a refused call does not touch it either.
 #[test]
-fn a_void_field_is_not_looked_at() {
+fn a_senders_void_index_is_not_looked_at() {
     let mut s = sender();
     s.0.last_index = u64::MAX;
     let was = s.0;
@@ -124,59 +144,59 @@ fn a_void_field_is_not_looked_at() {
 }
 
 #[test]
-fn unknown_numbers_at_set_up() {
-    // SAFETY: each pointer goes with the length of its array.
-    let made = |cipher, known| unsafe {
-        let s = tindrabek_sender_set_up(
-            SSRC,
-            KEY.as_ptr(),
-            16,
-            SALT.as_ptr(),
-            14,
-            core::ptr::null(),
-            0,
-            10,
-            cipher,
-        );
-        let r = tindrabek_receiver_set_up(
-            SSRC,
-            KEY.as_ptr(),
-            16,
-            SALT.as_ptr(),
-            14,
-            core::ptr::null(),
-            0,
-            10,
-            cipher,
-            3,
-            known,
-            4,
-        );
-        (s, r)
-    };
-    for (cipher, known, sends, receives) in [
-        (0, 0, 0, 0),
-        (1, 1, 0, 0),
-        (2, 0, 1, 1),
-        (u32::MAX, 1, 1, 1),
-        (1, 2, 0, 1),
-        (0, u32::MAX, 0, 1),
-    ] {
-        let (s, r) = made(cipher, known);
-        assert_eq!((s.number, r.number), (sends, receives), "cipher {cipher}, known {known}");
-        assert_eq!(s.number != 0, s.context == Sender::closed().0);
-        assert_eq!(r.number != 0, r.context == Receiver::closed().0);
+fn a_receivers_void_index_is_not_looked_at() {
+    let (mut s, mut r) = (sender(), receiver());
+    (r.0.media.highest, r.0.control.highest) = (u64::MAX, u64::MAX);
+    let was = r.0;
+    let (mut protected, mut out) = ([0; 100], [0; 100]);
+    let sent = s.send_media(&rtp(5), &mut protected).unwrap();
+    assert_eq!(r.receive_media(&protected[..sent.len], &mut []), Err(Refusal::Room));
+    assert!(r.0 == was);
+    assert_eq!(r.receive_media(&protected[..sent.len], &mut out).unwrap().index, 5);
+    assert_eq!((r.0.media.has_highest, r.0.media.highest), (1, 5));
+    let sent = s.send_control(&RTCP, &mut protected).unwrap();
+    assert_eq!(r.receive_control(&protected[..sent.len], &mut out).unwrap().index, 0);
+    assert_eq!((r.0.control.has_highest, r.0.control.highest), (1, 0));
+}
+
+fn plain_sender(cipher: u32) -> SenderSetUp {
+    let (key, salt) = (KEY.as_ptr(), SALT.as_ptr());
+    // SAFETY: each pointer goes with the length of its array, the null one with 0.
+    unsafe { tindrabek_sender_set_up(SSRC, key, 16, salt, 14, core::ptr::null(), 0, 10, cipher) }
+}
+
+fn plain_receiver(cipher: u32, known: u32) -> ReceiverSetUp {
+    let (key, salt, mki) = (KEY.as_ptr(), SALT.as_ptr(), core::ptr::null());
+    // SAFETY: as for a sender.
+    unsafe { tindrabek_receiver_set_up(SSRC, key, 16, salt, 14, mki, 0, 10, cipher, 3, known, 4) }
+}
+
+#[test]
+fn unknown_numbers_at_a_senders_set_up() {
+    for (cipher, number) in [(0, 0), (1, 0), (2, 1), (u32::MAX, 1)] {
+        let made = plain_sender(cipher);
+        assert_eq!(made.number, number, "cipher {cipher}");
+        assert_eq!(made.number != 0, made.context == Sender::closed().0, "cipher {cipher}");
     }
-    let (_, r) = made(1, 1);
-    assert_eq!(
-        (r.context.rollover, r.context.media.has_highest, r.context.media.highest),
-        (3, 1, 3 * 65536 + 4)
-    );
-    let (_, r) = made(1, 0);
-    assert_eq!(
-        (r.context.rollover, r.context.media.has_highest, r.context.media.highest),
-        (3, 0, 0)
-    );
+}
+
+#[test]
+fn unknown_numbers_at_a_receivers_set_up() {
+    for (cipher, known, number) in
+        [(0, 0, 0), (1, 1, 0), (2, 0, 1), (u32::MAX, 1, 1), (1, 2, 1), (0, u32::MAX, 1)]
+    {
+        let made = plain_receiver(cipher, known);
+        assert_eq!(made.number, number, "cipher {cipher}, known {known}");
+        assert_eq!(made.number != 0, made.context == Receiver::closed().0);
+    }
+}
+
+#[test]
+fn a_receiver_starts_where_its_set_up_says() {
+    for (known, highest) in [(1, 3 * 65536 + 4), (0, 0)] {
+        let r = plain_receiver(1, known).context;
+        assert_eq!((r.rollover, r.media.has_highest, r.media.highest), (3, known, highest));
+    }
 }
 
 #[test]
@@ -194,4 +214,25 @@ fn no_bytes_at_a_null_pointer() {
             3
         );
     }
+}
+
+// Whether every byte of a dropped value is zero.
+fn is_cleared<T>(dropped: &MaybeUninit<T>) -> bool {
+    let bytes = dropped.as_ptr().cast::<u8>();
+    // SAFETY: the bytes are the value's own, and its drop has written each, padding too.
+    (0..size_of::<T>()).all(|at| unsafe { bytes.add(at).read() } == 0)
+}
+
+#[test]
+fn a_dropped_context_is_cleared() {
+    let mut s = MaybeUninit::new(sender());
+    let mut r = MaybeUninit::new(receiver());
+    // SAFETY: both are made, are dropped once, and are not used as contexts afterwards.
+    unsafe {
+        assert!(s.assume_init_ref().0 != Sender::closed().0);
+        assert!(r.assume_init_ref().0 != Receiver::closed().0);
+        s.as_mut_ptr().drop_in_place();
+        r.as_mut_ptr().drop_in_place();
+    }
+    assert!(is_cleared(&s) && is_cleared(&r));
 }

@@ -23,11 +23,14 @@
 //! assert_eq!(receiver.receive_media(&protected[..sent.len], &mut opened), Err(Refusal::Repeat));
 //! # Ok::<(), Refusal>(())
 //! ```
+//!
+//! A context holds session keys. Its memory is cleared when it is dropped; copies that a call or a move leaves on the stack are not.
 use core::fmt;
 
 mod boundary;
 #[cfg(test)]
 mod boundary_tests;
+mod clear;
 
 /// Bytes of a master key.
 pub const KEY_LEN: usize = 16;

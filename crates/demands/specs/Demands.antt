@@ -1,7 +1,8 @@
 -- The demands on runs, in 01's words: proved of every set-up, also one that is refused, and of every list of calls (`refusal-keeps`,
 -- `sender-keeps` and `receiver-keeps` in proofs/Demand1, `sender-demand2`, `receiver-demand2`, `sender-demand3`, `receiver-demand3`).
 -- `Bytes (c .packet)` says that what a call reads are bytes, numbers below 256; only where a number is read from them and written again
--- is it asked for. Assumes nothing.
+-- is it asked for. Likewise `receiver-demand3` is told that the rollover counter has 32 bits and a last number 16 (`NumberFits`), as the types
+-- of the code give. Assumes nothing.
 use Prim.Native.Nat.{ℕ, _≤_}
 use mathlib.Core.Path.{_≡_}
 use mathlib.Core.Bool.{true}

@@ -32,7 +32,7 @@ impl Profile {
 pub struct Settings {
     pub profile: Profile,
     pub ssrc: u32,
-    pub mki: [u8; 4],
+    pub mki: [u8; Profile::MAX_MKI_LEN],
     pub mki_len: usize,
 }
 

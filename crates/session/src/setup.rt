@@ -52,7 +52,7 @@ fn no_keys() -> SessionKeys
             inner: zero,
             outer: zero,
         },
-        salt: [0; 14],
+        salt: [0; SessionKeys::SALT_LEN],
     }
 }
 
@@ -68,7 +68,7 @@ impl Session {
                     tag_len: 0,
                 },
                 ssrc: 0,
-                mki: [0; 4],
+                mki: [0; Profile::MAX_MKI_LEN],
                 mki_len: 0,
             },
             media: no_keys(),
@@ -103,11 +103,11 @@ impl Session {
         requires { ⌜ (length (now key) ≡ 16) × (length (now salt) ≡ 14) × (length (now mki) ≤ 4) ⌝ }
         ensures { λ r. ⌜ r ≡ sessionOf (record { ssrc = ssrc; masterKey = now (key .entry); masterSalt = now (salt .entry); mki = now (mki .entry); tagLength = «tag_len»; cipher = cipher }) ⌝ }
     {
-        let mut master_key = [0u8; 16];
+        let mut master_key = [0u8; Profile::MASTER_KEY_LEN];
         octets::copy_over(key, &mut master_key);
-        let mut master_salt = [0u8; 14];
+        let mut master_salt = [0u8; Profile::MASTER_SALT_LEN];
         octets::copy_over(salt, &mut master_salt);
-        let mut identifier = [0u8; 4];
+        let mut identifier = [0u8; Profile::MAX_MKI_LEN];
         octets::copy_over(mki, &mut identifier);
         let t = aes::sbox();
         Session {

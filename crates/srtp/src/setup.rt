@@ -50,6 +50,7 @@ impl Receiver {
 
 impl Sender {
     // A sender under this master key and master salt, with rollover counter 0 and nothing sent. Values off the list are refused.
+    // No two senders may be set up with one master key, master salt and SSRC, nor an old context be used again: both repeat keystream.
     pub fn set_up(
         ssrc: u32,
         key: &[u8],

@@ -16,6 +16,13 @@ impl SessionKeys {
 
     pub const CONTROL_LABEL: u8 = 3;
 
+    // Bytes of each session key (8.2): cipher key, authentication key, salt.
+    pub const CIPHER_KEY_LEN: usize = 16;
+
+    pub const TAG_KEY_LEN: usize = 20;
+
+    pub const SALT_LEN: usize = 14;
+
     // The session keys whose first label is `label`: those of cipher key, authentication key and salt follow each other.
     pub fn derive(t: &[u8; 256], label: u8, key: [u8; 16], salt: [u8; 14]) -> SessionKeys
         requires { ⌜ SBoxTable (now t) ⌝ }
@@ -23,9 +30,9 @@ impl SessionKeys {
         ensures { λ r. ⌜ r ≡ sessionKeys label key salt ⌝ }
     {
         let w = aes::expand_128(t, key);
-        let mut cipher_key = [0u8; 16];
-        let mut tag_key = [0u8; 20];
-        let mut session_salt = [0u8; 14];
+        let mut cipher_key = [0u8; SessionKeys::CIPHER_KEY_LEN];
+        let mut tag_key = [0u8; SessionKeys::TAG_KEY_LEN];
+        let mut session_salt = [0u8; SessionKeys::SALT_LEN];
         derived(t, &w, salt, label, &mut cipher_key);
         derived(t, &w, salt, label + 1, &mut tag_key);
         derived(t, &w, salt, label + 2, &mut session_salt);

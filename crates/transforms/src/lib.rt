@@ -15,7 +15,7 @@ pub use tag::media_tag;
 pub struct SessionKeys {
     pub round: [u32; 44],
     pub tag: sha1::HmacKey,
-    pub salt: [u8; 14],
+    pub salt: [u8; SessionKeys::SALT_LEN],
 }
 
 // RFC 3711's ciphers.

@@ -1,4 +1,4 @@
-/* Tindrabek: SRTP and SRTCP packet protection (RFC 3711) for one stream, for C.
+/* Tindrabek: SRTP and SRTCP packet protection (RFC 3711, and RFC 4771's integrity transform) for one stream, for C.
  *
  * Build the library with `rt staticlib srtp_c` and link target/staticlib/libsrtp_c.a. It is code for x86-64 Linux.
  *
@@ -29,7 +29,7 @@ extern "C" {
 #define TINDRABEK_ASSERT _Static_assert
 #endif
 
-/* The library has these sizes and places built in. */
+/* The library has these sizes and places built in, and C, C++ and Rust (rust/tindrabek) see the same structs. */
 #define TINDRABEK_SIZE(type, size) TINDRABEK_ASSERT(sizeof(type) == (size), #type)
 #define TINDRABEK_PLACE(type, field, place) TINDRABEK_ASSERT(offsetof(type, field) == (place), #type "." #field)
 
@@ -59,26 +59,53 @@ enum {
     TINDRABEK_CIPHER_AES = 1 /* AES-128 in counter mode */
 };
 
-/* The lengths that set-up takes: a key of 16 bytes, a salt of 14, an MKI of 0 to 4, a media tag of 4 or 10. The control tag has 10. */
+/* The integrity transforms of media packets; control packets always have HMAC-SHA1. Another number is refused as SETUP. With RCCM2 a tag is
+ * the rollover counter and 10 bytes of HMAC-SHA1 where the sequence number is 0 modulo the rate, and else 14 bytes of HMAC-SHA1. */
+enum {
+    TINDRABEK_INTEGRITY_HMAC_SHA1 = 0, /* RFC 3711's */
+    TINDRABEK_INTEGRITY_RCCM2 = 1      /* RFC 4771's, mode RCCm2 */
+};
+
+/* The list of set-up: a key of 16 bytes, a salt of 14, an MKI of 0 to 4; a media tag of 4 or 10 bytes, or with RCCM2 of 14, and then a rate
+ * of 1 to 65,535. The control tag always has 10 bytes. */
 enum {
     TINDRABEK_KEY_LEN = 16,
     TINDRABEK_SALT_LEN = 14,
     TINDRABEK_MAX_MKI_LEN = 4,
     TINDRABEK_TAG_LEN = 10,
     TINDRABEK_SHORT_TAG_LEN = 4,
+    TINDRABEK_RCC_TAG_LEN = 14,
     TINDRABEK_MAX_PACKET_LEN = 2048,
-    /* A buffer of so many bytes has room for every result: 2,048, the index word of control, the longest MKI, a tag of 10. */
-    TINDRABEK_MAX_RESULT_LEN = 2048 + 4 + 4 + 10
+    /* A buffer of so many bytes has room for every result: 2,048, the longest MKI, and 14 for the longest media tag or for control's index
+     * word and tag. */
+    TINDRABEK_MAX_RESULT_LEN = 2048 + 4 + 14
 };
+
+/* ---- profiles */
+
+/* What packets are protected with: a cipher, an integrity transform and its rate, which with HMAC-SHA1 is not looked at, and the length
+ * of the media tag. Set-up takes it by value. */
+typedef struct {
+    uint32_t cipher;
+    uint32_t integrity;
+    uint16_t rate;
+    size_t tag_len;
+} tindrabek_profile;
+
+TINDRABEK_SIZE(tindrabek_profile, 24);
+TINDRABEK_PLACE(tindrabek_profile, integrity, 4);
+TINDRABEK_PLACE(tindrabek_profile, rate, 8);
+TINDRABEK_PLACE(tindrabek_profile, tag_len, 16);
 
 /* ---- contexts. The fields are the library's: keep them, move them and copy them (a sender's with care, see above), and leave their
  * content alone. They hold session keys: clear the memory when a stream ends. Copies that a call leaves on the stack are not cleared.
  *
  * Out of bounds, and refused as SETUP in every call, is a context with
- *  - a length off the list above: `tag_len` not 4 or 10 (0 in a closed context), `mki_len` over 4;
+ *  - a value off the list above: `tag_len` not 4 or 10 (0 in a closed context), or with RCCM2 not 14; a `rate` of 0 with RCCM2; `mki_len`
+ *    over 4;
  *  - a mark beyond its bound: `last_index` or media `highest` above 2^48 - 1, control `highest` above 2^31 - 1, `control_sent` above 2^31
  *    (where `has_last` or `has_highest` is 0, the index that goes with it is not looked at);
- *  - a number that no enum has: `cipher`, `has_last` or `has_highest` above 1.
+ *  - a number that no enum has: `cipher`, `integrity`, `has_last` or `has_highest` above 1.
  * Any other is answered by the rules, with the keys and marks found in it, whether a set-up gave them or not. */
 
 typedef struct {
@@ -93,11 +120,10 @@ typedef struct {
 } tindrabek_keys;
 
 typedef struct {
-    uint32_t cipher;
+    tindrabek_profile profile;
     uint32_t ssrc;
-    size_t tag_len;
-    size_t mki_len;
     uint8_t mki[4];
+    size_t mki_len;
     tindrabek_keys media;
     tindrabek_keys control;
 } tindrabek_session;
@@ -127,24 +153,23 @@ TINDRABEK_SIZE(tindrabek_keys, 232);
 TINDRABEK_PLACE(tindrabek_keys, inner, 176);
 TINDRABEK_PLACE(tindrabek_keys, outer, 196);
 TINDRABEK_PLACE(tindrabek_keys, salt, 216);
-TINDRABEK_SIZE(tindrabek_session, 496);
-TINDRABEK_PLACE(tindrabek_session, ssrc, 4);
-TINDRABEK_PLACE(tindrabek_session, tag_len, 8);
-TINDRABEK_PLACE(tindrabek_session, mki_len, 16);
-TINDRABEK_PLACE(tindrabek_session, mki, 24);
-TINDRABEK_PLACE(tindrabek_session, media, 28);
-TINDRABEK_PLACE(tindrabek_session, control, 260);
-TINDRABEK_SIZE(tindrabek_sender, 520);
-TINDRABEK_PLACE(tindrabek_sender, has_last, 496);
-TINDRABEK_PLACE(tindrabek_sender, last_index, 504);
-TINDRABEK_PLACE(tindrabek_sender, control_sent, 512);
+TINDRABEK_SIZE(tindrabek_session, 504);
+TINDRABEK_PLACE(tindrabek_session, ssrc, 24);
+TINDRABEK_PLACE(tindrabek_session, mki, 28);
+TINDRABEK_PLACE(tindrabek_session, mki_len, 32);
+TINDRABEK_PLACE(tindrabek_session, media, 40);
+TINDRABEK_PLACE(tindrabek_session, control, 272);
+TINDRABEK_SIZE(tindrabek_sender, 528);
+TINDRABEK_PLACE(tindrabek_sender, has_last, 504);
+TINDRABEK_PLACE(tindrabek_sender, last_index, 512);
+TINDRABEK_PLACE(tindrabek_sender, control_sent, 520);
 TINDRABEK_SIZE(tindrabek_window, 24);
 TINDRABEK_PLACE(tindrabek_window, highest, 8);
 TINDRABEK_PLACE(tindrabek_window, bits, 16);
-TINDRABEK_SIZE(tindrabek_receiver, 552);
-TINDRABEK_PLACE(tindrabek_receiver, rollover, 496);
-TINDRABEK_PLACE(tindrabek_receiver, media, 504);
-TINDRABEK_PLACE(tindrabek_receiver, control, 528);
+TINDRABEK_SIZE(tindrabek_receiver, 560);
+TINDRABEK_PLACE(tindrabek_receiver, rollover, 504);
+TINDRABEK_PLACE(tindrabek_receiver, media, 512);
+TINDRABEK_PLACE(tindrabek_receiver, control, 536);
 
 /* ---- answers */
 
@@ -170,9 +195,9 @@ typedef struct {
 TINDRABEK_SIZE(tindrabek_answer, 24);
 TINDRABEK_PLACE(tindrabek_answer, len, 8);
 TINDRABEK_PLACE(tindrabek_answer, index, 16);
-TINDRABEK_SIZE(tindrabek_sender_set_up_answer, 528);
+TINDRABEK_SIZE(tindrabek_sender_set_up_answer, 536);
 TINDRABEK_PLACE(tindrabek_sender_set_up_answer, context, 8);
-TINDRABEK_SIZE(tindrabek_receiver_set_up_answer, 560);
+TINDRABEK_SIZE(tindrabek_receiver_set_up_answer, 568);
 TINDRABEK_PLACE(tindrabek_receiver_set_up_answer, context, 8);
 
 #undef TINDRABEK_PLACE
@@ -182,16 +207,20 @@ TINDRABEK_PLACE(tindrabek_receiver_set_up_answer, context, 8);
 /* ---- set-up */
 
 /* A sender for the stream `ssrc`, with rollover counter 0 and nothing sent: master key, master salt, MKI (with length 0 packets carry
- * none), length of the media tag, cipher. The session keys are derived here, once. Values off the list above are SETUP. */
+ * none), profile. The session keys are derived here, once. Values off the list above are SETUP. */
 tindrabek_sender_set_up_answer tindrabek_sender_set_up(uint32_t ssrc, const uint8_t *key, size_t key_len, const uint8_t *salt, size_t salt_len,
-                                                       const uint8_t *mki, size_t mki_len, size_t tag_len, uint32_t cipher);
+                                                       const uint8_t *mki, size_t mki_len, tindrabek_profile profile);
 
 /* A receiver for the stream `ssrc`, set up with the sender's values and the rollover counter that the stream has reached. With `known` 1
  * the last sequence number is `number`, and the highest index starts at 65,536 * rollover + number, with nothing accepted yet; with
- * `known` 0 `number` is not looked at, and there is no highest index until a packet is accepted. Another `known` is SETUP. */
+ * `known` 0 `number` is not looked at, and there is no highest index until a packet is accepted. Another `known` is SETUP.
+ *
+ * With RCCM2 the index of a packet that carries the rollover counter is read from it and not estimated. So a receiver with `known` 0 may
+ * start with any rollover counter: where it is wrong, packets are FORGED up to the next one that carries it, which is accepted at its own
+ * index, as are those after it. */
 tindrabek_receiver_set_up_answer tindrabek_receiver_set_up(uint32_t ssrc, const uint8_t *key, size_t key_len, const uint8_t *salt,
-                                                           size_t salt_len, const uint8_t *mki, size_t mki_len, size_t tag_len,
-                                                           uint32_t cipher, uint32_t rollover, uint32_t known, uint16_t number);
+                                                           size_t salt_len, const uint8_t *mki, size_t mki_len, tindrabek_profile profile,
+                                                           uint32_t rollover, uint32_t known, uint16_t number);
 
 /* The closed context of each kind: what a refused set-up gives. Every call on it is refused as SETUP. */
 tindrabek_sender tindrabek_sender_closed(void);

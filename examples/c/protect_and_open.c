@@ -98,10 +98,10 @@ int main(void) {
     const uint8_t mki[1] = {1};
     memset(key, 0x2a, sizeof key);
     memset(salt, 0x17, sizeof salt);
-    tindrabek_sender_set_up_answer s =
-        tindrabek_sender_set_up(SSRC, key, sizeof key, salt, sizeof salt, mki, sizeof mki, TINDRABEK_TAG_LEN, TINDRABEK_CIPHER_AES);
+    tindrabek_profile profile = {.cipher = TINDRABEK_CIPHER_AES, .integrity = TINDRABEK_INTEGRITY_HMAC_SHA1, .tag_len = TINDRABEK_TAG_LEN};
+    tindrabek_sender_set_up_answer s = tindrabek_sender_set_up(SSRC, key, sizeof key, salt, sizeof salt, mki, sizeof mki, profile);
     tindrabek_receiver_set_up_answer r =
-        tindrabek_receiver_set_up(SSRC, key, sizeof key, salt, sizeof salt, mki, sizeof mki, TINDRABEK_TAG_LEN, TINDRABEK_CIPHER_AES, 0, 0, 0);
+        tindrabek_receiver_set_up(SSRC, key, sizeof key, salt, sizeof salt, mki, sizeof mki, profile, 0, 0, 0);
     if (s.number != TINDRABEK_OK || r.number != TINDRABEK_OK) {
         printf("set-up:   refused\n");
         return 1;
@@ -111,7 +111,8 @@ int main(void) {
     send_all(&s.context, sent, &report);
     receive_all(&r.context, sent, &report);
 
-    s = tindrabek_sender_set_up(SSRC, key, sizeof key, salt, sizeof salt, mki, sizeof mki, 5, TINDRABEK_CIPHER_AES);
+    profile.tag_len = 5;
+    s = tindrabek_sender_set_up(SSRC, key, sizeof key, salt, sizeof salt, mki, sizeof mki, profile);
     if (s.number == TINDRABEK_OK)
         printf("set-up:   a tag of 5 bytes: taken\n");
     else

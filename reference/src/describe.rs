@@ -2,7 +2,7 @@
 
 use crate::coverage::outcome_name;
 use crate::layout::RtpHeader;
-use crate::settings::{Cipher, SetUp};
+use crate::settings::{Cipher, Integrity, SetUp};
 use crate::trace::{Answer, Call, Record, Request};
 
 /// Bytes in hexadecimal.
@@ -51,9 +51,13 @@ fn set_up(values: &SetUp) -> String {
         Some(Cipher::AesCounterMode) => "AES".to_string(),
         None => format!("cipher {}", values.cipher),
     };
+    let integrity = match values.integrity {
+        Integrity::HmacSha1 => "HMAC-SHA1".to_string(),
+        Integrity::Rccm2 { rate } => format!("RCCm2 of rate {rate}"),
+    };
     let string = |bytes: &[u8]| format!("{} ({} bytes)", hex(bytes), bytes.len());
     format!(
-        "tag of {}, {cipher}, SSRC {:08x}, key {}, salt {}, MKI {}",
+        "{integrity}, tag of {}, {cipher}, SSRC {:08x}, key {}, salt {}, MKI {}",
         values.tag_length,
         values.ssrc,
         string(&values.master_key),

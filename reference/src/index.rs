@@ -60,7 +60,7 @@ pub fn estimate(highest: Option<u64>, started_count: u32, received: u16) -> i128
     }
 }
 
-/// The estimate if it is an index: above the end is SPENT, below zero is OLD.
+/// The estimate if it is an index: SPENT above the last one, OLD below zero.
 pub fn within_ends(estimate: i128) -> Result<u64, Refusal> {
     Refusal::Spent.unless(estimate <= i128::from(MAX_MEDIA_INDEX))?;
     u64::try_from(estimate).map_err(|_| Refusal::Old)

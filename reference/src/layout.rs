@@ -1,7 +1,7 @@
 //! Layouts of RTP and RTCP packets (RFC 3550) and of their protected forms (RFC 3711, 3.1 and
-//! 3.4). Readers answer None where the layout doesn't hold.
+//! 3.4; RFC 4771, 2). Readers answer None where the layout doesn't hold.
 
-use crate::settings::{Settings, CONTROL_TAG_LENGTH};
+use crate::settings::{Settings, CARRIED_COUNT_LENGTH, CONTROL_TAG_LENGTH};
 
 /// Bytes of an RTP header without sources and extension.
 const RTP_FIXED_LENGTH: usize = 12;
@@ -59,17 +59,20 @@ pub fn rtcp_ssrc(bytes: &[u8]) -> Option<u32> {
     }
 }
 
-/// The parts of a protected media packet (RFC 3711, figure 1).
+/// The parts of a protected media packet (RFC 3711, figure 1). The authentication tag is the
+/// rollover count, if it carries one, and the MAC.
 #[derive(Clone, Copy, Debug, PartialEq, Eq)]
 pub struct ProtectedMedia<'a> {
     /// The header, which stands in clear.
     pub header: RtpHeader,
-    /// Header and enciphered payload: what the tag covers, but for the rollover count.
+    /// Header and enciphered payload: what the MAC covers, but for the rollover count.
     pub authenticated: &'a [u8],
     /// The MKI.
     pub mki: &'a [u8],
-    /// The authentication tag.
-    pub tag: &'a [u8],
+    /// The rollover count that the tag carries (RFC 4771, 2).
+    pub carried_count: Option<u32>,
+    /// The MAC's first bytes.
+    pub mac: &'a [u8],
 }
 
 impl<'a> ProtectedMedia<'a> {
@@ -78,7 +81,12 @@ impl<'a> ProtectedMedia<'a> {
         let (rest, tag) = split_end(packet, settings.media_tag_length)?;
         let (authenticated, mki) = split_end(rest, settings.mki.len())?;
         let header = RtpHeader::read(authenticated)?;
-        Some(ProtectedMedia { header, authenticated, mki, tag })
+        let (carried_count, mac) = if settings.integrity.carries_count(header.number) {
+            (Some(u32_at(tag, 0)?), &tag[CARRIED_COUNT_LENGTH..])
+        } else {
+            (None, tag)
+        };
+        Some(ProtectedMedia { header, authenticated, mki, carried_count, mac })
     }
 }
 

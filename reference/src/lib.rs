@@ -1,4 +1,5 @@
-//! SRTP and SRTCP (RFC 3711) in ordinary Rust, a second implementation to compare with.
+//! SRTP and SRTCP (RFC 3711) in ordinary Rust, a second implementation to compare with; with the
+//! integrity transform whose tags carry the rollover count (RFC 4771, mode 2).
 //!
 //! It is written from the standards alone, for reading beside them: AES by tables of words,
 //! SHA-1, HMAC, key derivation, packet layouts, and contexts whose replay window is a plain set
@@ -11,6 +12,7 @@
 //! | RFC 3711, 4.1 to 4.3 | [`counter_mode`], [`mod@derive`], [`session`] |
 //! | RFC 3550; RFC 3711, 3.1 and 3.4 | [`layout`] |
 //! | RFC 3711, 3.3.1 and 3.3.2 | [`index`], [`replay`] |
+//! | RFC 4771, 2 and 3 | [`settings::Integrity`]; tags in [`layout`], [`session`], [`context`] |
 //! | the link's own rules | [`settings`], [`refusal`], [`context`] |
 
 pub mod aes;

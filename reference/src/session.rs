@@ -1,12 +1,13 @@
 //! A session: the settings and keys that a packet is under, and the packet that they give at an
-//! index (RFC 3711, 3.1, 3.4, 4.1 and 4.2). Nothing here knows what was sent or received before.
+//! index (RFC 3711, 3.1, 3.4, 4.1 and 4.2; RFC 4771, 2). Nothing here knows what was sent or
+//! received before.
 
 use crate::counter_mode;
 use crate::derive::{self, SessionKeys};
-use crate::hmac::HmacSha1;
 use crate::index;
 use crate::layout::{self, ProtectedControl, ProtectedMedia, RtpHeader};
 use crate::settings::{Cipher, SetUp, Settings, MASTER_KEY_LENGTH, SALT_LENGTH};
+use crate::sha1::DIGEST_LENGTH;
 
 /// Settings with the session keys of media and of control.
 #[derive(Clone, Debug, PartialEq, Eq)]
@@ -23,10 +24,10 @@ impl Session {
     /// The session of a set-up; None if any value is off the list.
     pub fn set_up(values: &SetUp) -> Option<Session> {
         let settings = Settings::read(values)?;
-        let lengths_are_admitted = settings.are_admitted()
+        let values_are_admitted = settings.are_admitted()
             && values.master_key.len() == MASTER_KEY_LENGTH
             && values.master_salt.len() == SALT_LENGTH;
-        if !lengths_are_admitted {
+        if !values_are_admitted {
             return None;
         }
         let keys = |labels| SessionKeys::derive(&values.master_key, &values.master_salt, labels);
@@ -66,8 +67,11 @@ impl Session {
         let (authenticated, trailer) = out.split_at_mut(packet.len());
         authenticated.copy_from_slice(packet);
         self.apply_cipher(&self.media, index, &mut authenticated[header.length..]);
-        let mac = media_mac(&self.media.tag, authenticated, index);
-        self.write_trailer(&mac, trailer);
+        let count = index::rollover_count(index);
+        let mac = self.media_mac(authenticated, count);
+        let is_carried = self.settings.integrity.carries_count(header.number);
+        let count = count.to_be_bytes();
+        self.write_trailer(if is_carried { &count } else { &[] }, &mac, trailer);
     }
 
     /// Writes the protected control packet over the whole of `out`, which has just its length.
@@ -80,13 +84,19 @@ impl Session {
         }
         word.copy_from_slice(&layout::index_word(e_bit, index));
         let mac = self.control.tag.mac(&[authenticated]);
-        self.write_trailer(&mac, trailer);
+        self.write_trailer(&[], &mac, trailer);
     }
 
-    /// Whether the packet's tag is right at the index.
+    /// The whole MAC of a media packet. It also covers the rollover count of the packet's own
+    /// index.
+    pub fn media_mac(&self, authenticated: &[u8], rollover_count: u32) -> [u8; DIGEST_LENGTH] {
+        self.media.tag.mac(&[authenticated, &rollover_count.to_be_bytes()])
+    }
+
+    /// Whether the packet's MAC is right at the index.
     pub(crate) fn verify_media(&self, packet: &ProtectedMedia, index: u64) -> bool {
-        let mac = media_mac(&self.media.tag, packet.authenticated, index);
-        equal(packet.tag, &mac[..packet.tag.len()])
+        let mac = self.media_mac(packet.authenticated, index::rollover_count(index));
+        equal(packet.mac, &mac[..packet.mac.len()])
     }
 
     /// Whether the packet's tag is right.
@@ -127,17 +137,15 @@ impl Session {
         }
     }
 
-    /// MKI, then the MAC's first bytes as far as the trailer goes. The MKI is never covered.
-    fn write_trailer(&self, mac: &[u8], trailer: &mut [u8]) {
+    /// MKI, what the tag carries, then the MAC's first bytes as far as the trailer goes. The MKI
+    /// is never covered.
+    fn write_trailer(&self, carried: &[u8], mac: &[u8], trailer: &mut [u8]) {
         let (mki, tag) = trailer.split_at_mut(self.settings.mki.len());
+        let (front, rest) = tag.split_at_mut(carried.len());
         mki.copy_from_slice(&self.settings.mki);
-        tag.copy_from_slice(&mac[..tag.len()]);
+        front.copy_from_slice(carried);
+        rest.copy_from_slice(&mac[..rest.len()]);
     }
-}
-
-/// The MAC of a media packet also covers the rollover count of the packet's own index.
-fn media_mac(key: &HmacSha1, authenticated: &[u8], index: u64) -> [u8; 20] {
-    key.mac(&[authenticated, &index::rollover_count(index).to_be_bytes()])
 }
 
 /// Compares without stopping at the first difference, so that time tells nothing about the tag.

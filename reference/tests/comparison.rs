@@ -1,8 +1,9 @@
 //! The comparison passes the reference and fails whatever differs from it.
 
 use reference::compare::Report;
-use reference::generate::make_trace;
-use reference::trace::{answer_trace, Call, Record};
+use reference::generate::{make_trace, set_up_sweep};
+use reference::settings::{Integrity, SetUp};
+use reference::trace::{answer_trace, Call, Record, Records, Request};
 use std::process::{Command, Output};
 
 fn compare(program: &str, seed: u64, calls: u64) -> Output {
@@ -72,6 +73,46 @@ fn a_run_that_shows_too_little_fails() {
 fn a_seed_fixes_its_trace() {
     assert_eq!(make_trace(5, 500), make_trace(5, 500));
     assert_ne!(make_trace(5, 500), make_trace(6, 500));
+}
+
+/// What a trace sets up.
+fn set_ups(trace: &[u8]) -> Vec<SetUp> {
+    let requests = Records::new(trace).filter_map(|record| Request::read(&record));
+    let values = requests.filter_map(|request| match request {
+        Request::SetUpSender(values) | Request::SetUpReceiver(values, _) => Some(values),
+        Request::Packet { .. } => None,
+    });
+    values.collect()
+}
+
+#[test]
+fn the_sweep_has_every_rate_and_tag_length() {
+    let values = set_ups(&set_up_sweep(3));
+    let rates = (0..=300).chain([32_767, 32_768, 65_534, 65_535]);
+    for integrity in rates.map(|rate| Integrity::Rccm2 { rate }) {
+        assert!(values.iter().any(|v| v.integrity == integrity && v.tag_length == 14));
+    }
+    for length in 0..=u8::MAX {
+        for is_rccm2 in [false, true] {
+            let is_tried = |v: &SetUp| {
+                v.tag_length == length && (v.integrity != Integrity::HmacSha1) == is_rccm2
+            };
+            assert!(values.iter().any(is_tried), "{length}, {is_rccm2}");
+        }
+    }
+}
+
+#[test]
+fn random_traces_have_both_transforms_and_many_rates() {
+    let values = set_ups(&make_trace(3, 20_000));
+    let count = |holds: fn(&SetUp) -> bool| values.iter().filter(|v| holds(v)).count();
+    let rccm2 = count(|v| v.integrity != Integrity::HmacSha1);
+    assert!((30..=70).contains(&(100 * rccm2 / values.len())), "{rccm2} of {}", values.len());
+    for rate in [0, 1, 2, 3, 16, 256, 65_535] {
+        assert!(values.iter().any(|v| v.integrity == Integrity::Rccm2 { rate }), "{rate}");
+    }
+    assert!(count(|v| v.integrity == Integrity::HmacSha1 && v.tag_length == 14) > 0);
+    assert!(count(|v| v.integrity != Integrity::HmacSha1 && v.tag_length == 10) > 0);
 }
 
 #[test]

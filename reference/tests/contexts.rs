@@ -1,13 +1,13 @@
-//! Contexts: what no trace reaches, and what a refusal leaves alone.
+//! Contexts: what no trace reaches, what a refusal leaves alone, and receivers that join late.
 
 mod common;
 
-use common::{receiver, rtcp, rtp, sender, set_up};
+use common::{receiver, rtcp, rtp, sender, set_up, set_up_rccm2};
 use reference::context::{Finished, Receiver, Sender};
 use reference::index::{MAX_CONTROL_INDEX, MAX_MEDIA_INDEX};
 use reference::refusal::Refusal;
 use reference::session::Session;
-use reference::settings::{SetUp, Start};
+use reference::settings::{Integrity, SetUp, Start};
 
 const SPENT_CONTROL: u64 = 1 << 31;
 
@@ -71,12 +71,18 @@ fn closed_contexts_and_marks_beyond_the_ends_are_refused() {
 }
 
 #[test]
-fn contexts_with_lengths_off_the_list_are_refused() {
-    for (tag_length, mki_length) in [(0, 0), (5, 0), (11, 0), (20, 0), (10, 5), (4, 6)] {
+fn contexts_with_settings_off_the_list_are_refused() {
+    let rccm2 = |rate| Integrity::Rccm2 { rate };
+    let hmac = [(0, 0), (5, 0), (11, 0), (14, 0), (20, 0), (10, 5), (4, 6)];
+    let long_tag = [(0, 0), (3, 0), (4, 0), (10, 0), (13, 0), (15, 0), (20, 0), (14, 5)];
+    let cases = hmac.map(|lengths| (Integrity::HmacSha1, lengths)).into_iter();
+    let cases = cases.chain(long_tag.map(|lengths| (rccm2(1), lengths)));
+    for (integrity, (tag_length, mki_length)) in cases.chain([(rccm2(0), (14, 0))]) {
         let mut bad_sender = sender(&set_up());
         let mut bad_receiver = receiver(&set_up(), 0, None);
         for session in [&mut bad_sender.session, &mut bad_receiver.session] {
             let settings = &mut session.as_mut().unwrap().settings;
+            settings.integrity = integrity;
             settings.media_tag_length = tag_length;
             settings.mki = vec![1; mki_length];
         }
@@ -95,6 +101,9 @@ fn every_set_up_value_off_the_list_is_refused() {
             (byte == 16, SetUp { master_key: string.clone(), ..set_up() }),
             (byte == 14, SetUp { master_salt: string.clone(), ..set_up() }),
             (byte <= 4, SetUp { mki: string, ..set_up() }),
+            (byte == 14, SetUp { tag_length: byte, ..set_up_rccm2(7) }),
+            (byte > 0, set_up_rccm2(u16::from(byte))),
+            (byte > 0, set_up_rccm2(u16::from(byte) << 8)),
         ];
         for (is_good, values) in cases {
             let verdict = Refusal::Setup.unless(is_good);
@@ -119,6 +128,100 @@ fn the_window_holds_on_both_sides_of_a_rollover() {
         let is_repeat = index == 65_530 && receiver.media.accepted.contains(&65_541);
         assert_eq!(answer, if is_repeat { Err(Refusal::Repeat) } else { Ok(index) });
     }
+}
+
+/// The answers of one receiver to packets made at these indices, and its H after each.
+fn receive_each(
+    receiver: &mut Receiver,
+    values: &SetUp,
+    indices: &[u64],
+) -> Vec<(Result<u64, Refusal>, Option<u64>)> {
+    let session = Session::set_up(values).unwrap();
+    let answer = |index: &u64| {
+        let packet = session.made_media(&rtp(*index as u16, 9), *index).unwrap();
+        let answer = receiver.receive_media(&packet, &mut [0; 100]);
+        (answer.map(|finished| finished.index), receiver.media.highest)
+    };
+    indices.iter().map(answer).collect()
+}
+
+/// The sender is in its sixth rollover. Whatever count the receiver was started with, it starts
+/// at number 32, which carries the right one, and the packets about it come in.
+#[test]
+fn a_late_joiner_starts_where_the_count_is_carried() {
+    let (values, base) = (set_up_rccm2(16), 5 << 16);
+    for started_count in [0, 4, 6, u32::MAX] {
+        let mut receiver = receiver(&values, started_count, None);
+        let untouched = receiver.clone();
+        let early = receive_each(&mut receiver, &values, &[base + 30, base + 31]);
+        assert_eq!(early, [(Err(Refusal::Forged), None); 2]);
+        assert_eq!(receiver, untouched);
+        let indices = [32, 31, 33, 30].map(|number| base + number);
+        let highest = [32, 32, 33, 33].map(|number| Some(base + number));
+        let answers = receive_each(&mut receiver, &values, &indices);
+        assert_eq!(answers, Vec::from_iter(indices.map(Ok).into_iter().zip(highest)));
+    }
+}
+
+#[test]
+fn a_read_index_never_moves_h_back() {
+    let values = set_up_rccm2(1);
+    let mut receiver = receiver(&values, 3, Some(9));
+    let start = 3 << 16 | 9;
+    let far = 900 << 16;
+    let indices = [far, start, far - 63, far - 64, far - 63, far, far + 1];
+    let expected = [
+        (Ok(far), far),
+        (Err(Refusal::Old), far),
+        (Ok(far - 63), far),
+        (Err(Refusal::Old), far),
+        (Err(Refusal::Repeat), far),
+        (Err(Refusal::Repeat), far),
+        (Ok(far + 1), far + 1),
+    ];
+    let expected = expected.map(|(answer, highest)| (answer, Some(highest)));
+    assert_eq!(receive_each(&mut receiver, &values, &indices), expected);
+}
+
+/// A carried count is covered by the MAC, and a longer MAC is checked whole. A packet with a
+/// wrong count is judged by the index that it then has, and changes nothing.
+#[test]
+fn every_bit_of_a_tag_counts() {
+    let values = set_up_rccm2(2);
+    let session = Session::set_up(&values).unwrap();
+    for index in [(7 << 16) + 100, (7 << 16) + 101] {
+        let packet = session.made_media(&rtp(index as u16, 9), index).unwrap();
+        let mut receiver = receiver(&values, 7, Some(90));
+        let untouched = receiver.clone();
+        for bit in 0..14 * 8 {
+            let (mut changed, tag) = (packet.clone(), packet.len() - 14);
+            changed[tag + bit / 8] ^= 0x80 >> (bit % 8);
+            let count = u32::from_be_bytes(changed[tag..tag + 4].try_into().unwrap());
+            let is_behind = index % 2 == 0 && count < 7;
+            let refusal = if is_behind { Refusal::Old } else { Refusal::Forged };
+            let mut out = [0xa5; 100];
+            assert_eq!(receiver.receive_media(&changed, &mut out), Err(refusal), "bit {bit}");
+            assert_eq!((&receiver, out), (&untouched, [0xa5; 100]), "bit {bit}");
+        }
+        let opened = receiver.receive_media(&packet, &mut [0; 100]);
+        assert_eq!(opened, Ok(Finished { index, length: 21 }));
+    }
+}
+
+#[test]
+fn control_is_the_same_under_each_transform() {
+    let (plain, read) = (set_up(), set_up_rccm2(1));
+    for index in [0, 1, 65_536] {
+        let made = |values| Session::set_up(values).unwrap().made_control(&rtcp(16), index, true);
+        assert_eq!(made(&plain), made(&read));
+        let packet = made(&read).unwrap();
+        let opened = receiver(&read, 0, None).receive_control(&packet, &mut [0; 24]);
+        assert_eq!(opened, Ok(Finished { index, length: 24 }));
+    }
+    let (mut one, mut other) = ([0; 38], [0; 38]);
+    let sent = sender(&plain).send_control(&rtcp(16), &mut one);
+    assert_eq!(sent, sender(&read).send_control(&rtcp(16), &mut other));
+    assert_eq!(one, other);
 }
 
 #[test]

@@ -2,9 +2,9 @@
 
 mod common;
 
-use common::{bytes, rtcp, rtp, set_up};
+use common::{bytes, rtcp, rtp, set_up, set_up_rccm2};
 use reference::settings::{SetUp, Start};
-use reference::trace::{answer_trace, set_up_body, start_fields, Record};
+use reference::trace::{answer_trace, sender_body, Record};
 
 fn record(op: u8, body: &[u8]) -> Vec<u8> {
     let mut bytes = Vec::new();
@@ -17,7 +17,7 @@ fn call(op: u8, room: u16, packet: &[u8]) -> Vec<u8> {
 }
 
 fn receiver_body(values: &SetUp, start: Start) -> Vec<u8> {
-    [set_up_body(values), start_fields(start, 0x5555)].concat()
+    reference::trace::receiver_body(values, start, 0x5555)
 }
 
 /// An answer without a packet.
@@ -38,7 +38,7 @@ fn layouts_are_those_of_the_paper() {
         )
     );
     let trace =
-        [record(1, &set_up_body(&set_up())), call(3, 40, &rtp(0x1234, 16)), call(4, 38, &rtcp(16))];
+        [record(1, &sender_body(&set_up())), call(3, 40, &rtp(0x1234, 16)), call(4, 38, &rtcp(16))];
     let answers = [
         plain_answer(1, 0, 0),
         bytes(
@@ -53,11 +53,97 @@ fn layouts_are_those_of_the_paper() {
     assert_eq!(answer_trace(&trace.concat()), answers.concat());
 }
 
+/// The rate stands behind everything else, in a sender's set-up behind the MKI and in a
+/// receiver's behind the last number.
+#[test]
+fn the_rate_is_the_setting_of_id_1() {
+    let values = SetUp { mki: bytes("0a0b"), ..set_up_rccm2(258) };
+    let fields = "0e 01 cafebabe 10 e1f97a0d3e018be0d64fa32c06de4139 \
+                  0e 0ec675ad498afeebb6960b3aabe6 02 0a0b";
+    let start = Start { rollover_count: 258, last_number: None };
+    assert_eq!(sender_body(&values), bytes(&format!("{fields} 01 02 0102")));
+    let receiver = bytes(&format!("{fields} 00000102 00 5555 01 02 0102"));
+    assert_eq!(receiver_body(&values, start), receiver);
+    // Number 258 carries the count, number 259 doesn't; the tag has 14 bytes in each packet.
+    let trace = [
+        record(1, &sender_body(&values)),
+        record(2, &receiver),
+        call(3, 28, &rtp(258, 0)),
+        call(3, 28, &rtp(259, 0)),
+        call(5, 12, &[&rtp(258, 0)[..], &bytes("0a0b 00000000 709a08f96259d2601c0b")].concat()),
+    ];
+    let answers = [
+        plain_answer(1, 0, 0),
+        plain_answer(2, 0, 0),
+        bytes(
+            "03 00 0000000000000102 001c 001c 800f0102decafbadcafebabe 0a0b 00000000 \
+             709a08f96259d2601c0b",
+        ),
+        bytes(
+            "03 00 0000000000000103 001c 001c 800f0103decafbadcafebabe 0a0b \
+             c52727ff6c33985b13e9a2f225d1",
+        ),
+        bytes("05 00 0000000000000102 000c 000c 800f0102decafbadcafebabe"),
+    ];
+    assert_eq!(answer_trace(&trace.concat()), answers.concat());
+}
+
+/// Settings that fit the format, though set-up refuses their values.
+#[test]
+fn settings_off_the_list_fit() {
+    let start = Start { rollover_count: 0, last_number: Some(9) };
+    for values in [
+        set_up_rccm2(0),
+        SetUp { tag_length: 14, ..set_up() },
+        SetUp { tag_length: 10, ..set_up_rccm2(1) },
+        SetUp { tag_length: 4, ..set_up_rccm2(65_535) },
+    ] {
+        let trace = [record(1, &sender_body(&values)), record(2, &receiver_body(&values, start))];
+        let answers = [plain_answer(1, 1, 0), plain_answer(2, 1, 0)];
+        assert_eq!(answer_trace(&trace.concat()), answers.concat(), "{values:?}");
+    }
+}
+
+#[test]
+fn settings_that_do_not_fit_are_answered_by_255() {
+    let start = Start { rollover_count: 0, last_number: None };
+    // Unknown ids, other lengths, the same setting twice, cut settings, and bytes behind.
+    let misfits = [
+        "00 00",
+        "00 02 0001",
+        "02 02 0001",
+        "ff 00",
+        "01 02 0001 02 00",
+        "02 00 01 02 0001",
+        "01 00",
+        "01 01 01",
+        "01 03 000001",
+        "01 04 00000001",
+        "01 02 0001 01 02 0001",
+        "01 02 0001 01 02 0002",
+        "01 02 0000 01 02 0001",
+        "01",
+        "01 02",
+        "01 02 00",
+        "01 02 0001 00",
+        "01 02 0001 01",
+    ];
+    for settings in misfits {
+        for length in [4, 10, 14] {
+            let values = SetUp { tag_length: length, ..set_up() };
+            for (op, body) in [(1, sender_body(&values)), (2, receiver_body(&values, start))] {
+                let misfit = record(op, &[body, bytes(settings)].concat());
+                assert_eq!(answer_trace(&misfit), plain_answer(op, 255, 0), "{settings}");
+            }
+        }
+    }
+}
+
 #[test]
 fn a_call_before_its_set_up_finds_the_closed_context() {
     let trace = [
         call(3, 5, &rtp(1, 5)),
-        record(1, &set_up_body(&set_up())),
+        record(1, &sender_body(&set_up())),
         call(6, 0, &rtcp(40)),
         call(5, 7, &[]),
     ];
@@ -73,7 +159,7 @@ fn a_call_before_its_set_up_finds_the_closed_context() {
 #[test]
 fn records_that_do_not_fit_are_answered_by_255() {
     let start = Start { rollover_count: 0, last_number: None };
-    let good_sender = set_up_body(&set_up());
+    let good_sender = sender_body(&set_up());
     let good_receiver = receiver_body(&set_up(), start);
     let mut neither_known_nor_unknown = good_receiver.clone();
     let place = good_receiver.len() - 3;
@@ -109,7 +195,7 @@ fn records_that_do_not_fit_are_answered_by_255() {
 fn the_largest_records_fit() {
     let largest = call(3, 4096, &[0x80; 8190]);
     assert_eq!(answer_trace(&largest), plain_answer(3, 1, 4096));
-    let trace = [record(1, &set_up_body(&set_up())), largest].concat();
+    let trace = [record(1, &sender_body(&set_up())), largest].concat();
     assert_eq!(answer_trace(&trace)[14..], plain_answer(3, 2, 4096));
 }
 
@@ -118,9 +204,9 @@ fn a_refused_set_up_closes_its_context_only() {
     let refused = SetUp { cipher: 2, ..set_up() };
     let start = Start { rollover_count: 0, last_number: None };
     let trace = [
-        record(1, &set_up_body(&set_up())),
+        record(1, &sender_body(&set_up())),
         record(2, &receiver_body(&set_up(), start)),
-        record(1, &set_up_body(&refused)),
+        record(1, &sender_body(&refused)),
         call(3, 40, &rtp(1, 0)),
         call(5, 40, &[]),
         record(2, &receiver_body(&refused, start)),

@@ -2,7 +2,7 @@
 
 mod common;
 
-use common::{bytes, receiver, rtcp, rtp, sender, set_up, MASTER_KEY, MASTER_SALT};
+use common::{bytes, receiver, rtcp, rtp, sender, set_up, set_up_rccm2, MASTER_KEY, MASTER_SALT};
 use reference::aes::{Aes, S_BOX};
 use reference::context::Finished;
 use reference::counter_mode::{initial_counter, keystream};
@@ -237,5 +237,29 @@ fn packets_with_mki_and_short_tag() {
         assert_eq!(session.made_media(&rtp(0x1234, 16), 0x89ab_cdef_1234), Some(bytes(media)));
         let made = session.made_control(&rtcp(16), 0x1234_5678, cipher == 1);
         assert_eq!(made, Some(bytes(control)));
+    }
+}
+
+/// RFC 4771's tags at rate 3, computed with Python's hmac and another maker's AES. With this
+/// count, 3 divides the first number and not its index, and the second index and not its number.
+#[test]
+fn rfc_4771_tags() {
+    const COUNT: u32 = 0x89ab_cdef;
+    let cases = [
+        (1, 0x1230, "41f9877c1206547588e4c22afc0681a2", "89abcdef 4e8025909a46c9781cce"),
+        (1, 0x1234, "ccb65cba10baaa24c3154d26776f52af", "d485d5efe2e1933ced69f39d7d95"),
+        (0, 0x1230, "abababababababababababababababab", "89abcdef df6044e18349b95abaa1"),
+        (0, 0x1234, "abababababababababababababababab", "d78d9ab000a511b601be4755708f"),
+    ];
+    for (cipher, number, text, tag) in cases {
+        let values = SetUp { cipher, mki: bytes("0a0b0c"), ..set_up_rccm2(3) };
+        let (plain, index) = (rtp(number, 16), u64::from(COUNT) << 16 | u64::from(number));
+        let expected = [&plain[..12], &bytes(text), &bytes("0a0b0c"), &bytes(tag)].concat();
+        let made = Session::set_up(&values).unwrap().made_media(&plain, index);
+        assert_eq!(made, Some(expected.clone()));
+        let mut out = [0; 28];
+        let opened = receiver(&values, COUNT, None).receive_media(&expected, &mut out);
+        assert_eq!(opened, Ok(Finished { index, length: 28 }));
+        assert_eq!(out[..], plain);
     }
 }

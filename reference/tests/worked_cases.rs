@@ -2,22 +2,28 @@
 
 mod common;
 
-use common::{bytes, receiver, rtp, sender, set_up};
+use common::{bytes, receiver, rtp, sender, set_up, set_up_rccm2};
 use reference::context::Finished;
 use reference::index::{self, MAX_MEDIA_INDEX};
 use reference::layout::RtpHeader;
 use reference::refusal::Refusal;
 use reference::session::Session;
+use reference::settings::SetUp;
 
 /// What a receiver with highest index H says to a good packet of this number. The packet is made
 /// at the index that the rules give, or would give modulo 2^48.
 fn received(highest: u64, number: u16) -> Result<u64, Refusal> {
-    let count = index::rollover_count(highest);
-    let mut receiver = receiver(&set_up(), count, Some(index::number(highest)));
     let estimate = index::estimate(Some(highest), 0, number);
     let made_at = estimate.rem_euclid(i128::from(MAX_MEDIA_INDEX) + 1) as u64;
-    let session = Session::set_up(&set_up()).unwrap();
-    let packet = session.made_media(&rtp(number, 5), made_at).unwrap();
+    received_at(&set_up(), highest, made_at)
+}
+
+/// What a receiver with highest index H says to the packet made at an index.
+fn received_at(values: &SetUp, highest: u64, made_at: u64) -> Result<u64, Refusal> {
+    let count = index::rollover_count(highest);
+    let mut receiver = receiver(values, count, Some(index::number(highest)));
+    let session = Session::set_up(values).unwrap();
+    let packet = session.made_media(&rtp(index::number(made_at), 5), made_at).unwrap();
     receiver.receive_media(&packet, &mut [0; 100]).map(|finished| finished.index)
 }
 
@@ -128,4 +134,59 @@ fn case_15_a_header_alone() {
     let mut out = [0; 22];
     let finished = sender(&set_up()).send_media(&rtp(1, 0), &mut out);
     assert_eq!(finished, Ok(Finished { index: 1, length: 22 }));
+}
+
+/// Where every tag carries the rollover count, the cases above come out by the index that is read.
+#[test]
+fn carried_counts_are_read() {
+    let last_count = MAX_MEDIA_INDEX - 65_535;
+    let cases = [
+        ("d1", 65_541, 65_530, true),
+        ("d2", 65_530, 65_539, true),
+        ("d3, for the number is ahead", 5, 65_530, true),
+        ("d4, for the count is the last", MAX_MEDIA_INDEX, last_count, false),
+        ("one more than d5", 100, 32_868, true),
+        ("farther ahead than any estimate", 100, 32_869, true),
+        ("d6, with the count behind", 40_000, 7_232, false),
+        ("d6, with the count ahead", 40_000, 72_768, true),
+        ("d7, with the count ahead", 40_000, 72_769, true),
+        ("d8, within", 1000, 937, true),
+        ("d8, beyond", 1000, 936, false),
+        ("several rollovers ahead", 1000, 7 * 65_536, true),
+        ("several rollovers behind", 7 * 65_536, 1000, false),
+        ("the last index from the first", 0, MAX_MEDIA_INDEX, true),
+        ("the first index from the last", MAX_MEDIA_INDEX, 0, false),
+        ("the started H itself", MAX_MEDIA_INDEX, MAX_MEDIA_INDEX, true),
+    ];
+    for (case, highest, index, is_let_in) in cases {
+        let expected = if is_let_in { Ok(index) } else { Err(Refusal::Old) };
+        assert_eq!(received_at(&set_up_rccm2(1), highest, index), expected, "{case}");
+    }
+}
+
+/// A sender's packets about a rollover at rate 3: the number decides which tags carry the count.
+#[test]
+fn numbers_that_the_rate_divides_carry_the_count() {
+    let mut sender = sender(&set_up_rccm2(3));
+    sender.last_index = Some(65_531);
+    for (number, count) in [
+        (65_532, Some(0)),
+        (65_533, None),
+        (65_535, Some(0)),
+        (0, Some(1)),
+        (2, None),
+        (3, Some(1)),
+        (5, None),
+    ] {
+        let mut out = [0; 26];
+        let finished = sender.send_media(&rtp(number, 0), &mut out).unwrap();
+        assert_eq!(finished.length, 26);
+        let mac = Session::set_up(&set_up_rccm2(3)).unwrap();
+        let mac = mac.media_mac(&out[..12], index::rollover_count(finished.index));
+        let expected = match count {
+            Some(count) => [&u32::to_be_bytes(count), &mac[..10]].concat(),
+            None => mac[..14].to_vec(),
+        };
+        assert_eq!(out[12..], expected, "number {number}");
+    }
 }

@@ -83,9 +83,9 @@ read-is control u b p i e =
 tag-is : (k : Kind) (u : SetUp) (b : List ℕ) (i : ℕ) → TaggedAs k (sessionOf u) b i → TagFor k u b i
 unfolding sessionOf
 tag-is media u b i e =
-    subst (λ (m : List ℕ). tagOf (u .tagLength) b ≡ mediaTag (sessionOf u) (authenticatedPortion (length m) (u .tagLength) b) i)
-    (mki-kept u) e
-    ∙ media-tag u (authenticatedPortion (length (u .mki)) (u .tagLength) b) i
+    let n = u .profile .«tag_len» in
+    subst (λ (m : List ℕ). tagOf n b ≡ mediaTag (sessionOf u) (authenticatedPortion (length m) n b) i) (mki-kept u) e
+    ∙ media-tag u (authenticatedPortion (length (u .mki)) n b) i
 tag-is control u b i e =
     subst (λ (m : List ℕ). tagOf controlTagLength b ≡ controlTag (sessionOf u) (authenticatedPortion (length m) controlTagLength b))
     (mki-kept u) e

@@ -1,12 +1,17 @@
 -- Demand 3, of every two runs of senders and of every run of a receiver. Assumes nothing.
-use Prim.Native.Nat.{ℕ, _+_, _-_, _^_, _≤_, _<_}
+use Prim.Native.Nat.{ℕ, _+_, _-_, _%_, _^_, _≤_, _<_}
 use native.Mathlib.Omega.{arith}
 use mathlib.Core.Path.{_≡_, refl, sym, ap, subst, _∙_}
-use mathlib.Core.Bool.{true, false}
+use mathlib.Core.Bool.{Bool, true, false, cond}
 use mathlib.Core.List.{List}
+use lib.IntN.{pos}
 use lib.ListN.{length}
 use borrow.Author.Tests.{le-leb, lt-leb}
 use Rattle.rtp.specs.Protected.{rtcpPortion}
+use Rattle.transforms.specs.Tag.{rolloverCounter}
+use Rattle.transforms.specs.Rcc.{carriesCounter, carriedCounter}
+use Rattle.transforms.specs.declared.Integrity.{Integrity}
+use Rattle.transforms.proofs.RccLaws.{carried-back}
 use Rattle.replay.specs.Index.{maxMediaIndex, indexOf, estimate, Near}
 use Rattle.replay.specs.Accepted.{mem, start, tooOld, acceptAll, highestOf}
 use Rattle.replay.specs.Window.{windowLength, windowVerdict, windowStart, windowMarkAll}
@@ -22,12 +27,12 @@ use Rattle.srtp.specs.declared.LastNumber.the-variants.{Unknown, Known}
 use Rattle.session.specs.declared.Session.{Session}
 use Rattle.srtp.specs.declared.Receiver.{Receiver}
 use Rattle.srtp.specs.Outcomes.{done}
-use Rattle.session.specs.Packets.{ssrcOf, cipherOf, encrypts, cipheredMedia, cipheredControl}
+use Rattle.session.specs.Packets.{ssrcOf, cipherOf, integrityOf, tagLength, encrypts, cipheredMedia, mediaTag, cipheredControl}
 use Rattle.session.specs.SetUps.{SetUp, listed, sessionOf, settingsListed}
 use Rattle.srtp.specs.Contexts.{highestAtMost, startHighest, startReceiver, setUpReceiver, receiverListed}
-use Rattle.srtp.specs.Calls.{mediaPortion, controlReceived}
+use Rattle.srtp.specs.Calls.{mediaPortion, mediaPlace, controlReceived}
 use Rattle.demands.specs.Runs.{Kind, media, control, Call, receive, receiving, after, accepted, senderOutcome}
-use Rattle.demands.specs.Words.{HasIndex, Made, Reaches, NumberFits, acceptedAs, highestAtStart, isPacket, protected}
+use Rattle.demands.specs.Words.{HasIndex, Made, hasWholeIndex, Reaches, NumberFits, acceptedAs, highestAtStart, isPacket, protected}
 use Rattle.demands.specs.Demands.{ReceiverDemand3, SenderDemand3}
 use Rattle.demands.proofs.SettingLaws.{session-listed}
 use Rattle.demands.proofs.MediaLaws.{media-twice, srtp-portion}
@@ -76,23 +81,36 @@ sender-demand3 u =
     }
 
 -- ---- receiver
--- what is within reach is not too old, and a media packet's number names it
-not-old : (k : Kind) (rollover : ℕ) (h : Highest) (i : ℕ) → Reaches k rollover h i → tooOld windowLength h i ≡ false
-not-old media rollover Absent i w = refl
-not-old media rollover (At h) i w = lt-leb (i + windowLength) h (omega (arith, w .0))
-not-old control rollover Absent i w = refl
-not-old control rollover (At h) i w = lt-leb (i + windowLength) h (omega arith)
+-- what is within reach is not too old
+not-old : (whole : Bool) (rollover : ℕ) (h : Highest) (i : ℕ) → Reaches whole rollover h i → tooOld windowLength h i ≡ false
+not-old true rollover Absent i w = refl
+not-old true rollover (At h) i w = lt-leb (i + windowLength) h (omega arith)
+not-old false rollover Absent i w = refl
+not-old false rollover (At h) i w = lt-leb (i + windowLength) h (omega (arith, w .0))
 
-near : (rollover : ℕ) (h : Highest) (i : ℕ) → Reaches media rollover h i → Near windowLength rollover h i
+-- and is found: by its number where that names it; else by the rollover counter that the tag of index i carries
+near : (rollover : ℕ) (h : Highest) (i : ℕ) → Reaches false rollover h i → Near windowLength rollover h i
 near rollover Absent i w = w
 near rollover (At h) i w = (omega (arith, w .0), omega (arith, w .1))
 
-finds : (k : Kind) (r : Receiver) (p : List ℕ) (i : ℕ) → HasIndex k p i → Reaches k (r .rollover) (windowOf k r .highest) i →
-    Finds k r p i
-finds media r p i h w =
-    ap (λ (q : ℕ). estimate (r .rollover) q (r .media .highest)) (h .0)
-    ∙ estimate-near windowLength (r .rollover) (r .media .highest) i (omega arith) (near (r .rollover) (r .media .highest) i w)
-finds control r p i h w = tt
+found : (whole : Bool) (rollover : ℕ) (h : Highest) (i : ℕ) (t : List ℕ) → (whole ≡ true → carriedCounter t ≡ rolloverCounter i) →
+    Reaches whole rollover h i → cond whole (pos (indexOf (carriedCounter t) (i % 65536))) (estimate rollover (i % 65536) h) ≡ pos i
+found true rollover h i t c w = ap pos (omega (arith, c refl))
+found false rollover h i t c w = estimate-near windowLength rollover h i (omega arith) (near rollover h i w)
+
+finds : (k : Kind) (u : SetUp) (r : Receiver) (p : List ℕ) (i : ℕ) → r .session ≡ sessionOf u → HasIndex k p i →
+    Reaches (hasWholeIndex k u i) (r .rollover) (windowOf k r .highest) i → Finds k r p i
+unfolding sessionOf mediaTag
+finds media u r p i e h w =
+    let s : Session = r .session in
+    let t : List ℕ = mediaTag s (cipheredMedia s p i) i in
+    let same : integrityOf s ≡ u .profile .integrity = ap integrityOf e in
+    ap (λ (q : ℕ). mediaPlace r q t) (h .0)
+    ∙ ap (λ (x : Integrity). cond (carriesCounter x (i % 65536)) (pos (indexOf (carriedCounter t) (i % 65536))) (estimate (r .rollover) (i % 65536) (r .media .highest))) same
+    ∙ found (hasWholeIndex media u i) (r .rollover) (r .media .highest) i t
+    (λ c. carried-back (integrityOf s) (tagLength s) (s .media) (cipheredMedia s p i) i (h .1)
+    (ap (λ (x : Integrity). carriesCounter x (i % 65536)) same ∙ c)) w
+finds control u r p i e h w = tt
 
 below-of : (k : Kind) (p : List ℕ) (i : ℕ) → HasIndex k p i → i ≤ maxIndex k
 below-of media p i h = h .1
@@ -146,11 +164,11 @@ module _ (u : SetUp) (rollover : ℕ) (number : LastNumber) (w : rollover < 2 ^ 
   session-is = run-kept r₀ earlier .session
 
   accepts-made : (k : Kind) (p : List ℕ) (i : ℕ) (b : List ℕ) (room : ℕ) → Made k u p i b → mem i (indices k) ≡ false →
-      Reaches k rollover (highestOf (h₀ k) (indices k)) i → length p ≤ room → receive k r b room ≡ done p i (marked k r i)
+      Reaches (hasWholeIndex k u i) rollover (highestOf (h₀ k) (indices k)) i → length p ≤ room → receive k r b room ≡ done p i (marked k r i)
   unfolding sessionOf
   accepts-made k p i b room made new reach fits =
       let t = made .plain in
-      let reach′ : Reaches k (r .rollover) (windowOf k r .highest) i = rw (run-kept r₀ earlier .rollover, highest-is k) reach in
+      let reach′ : Reaches (hasWholeIndex k u i) (r .rollover) (windowOf k r .highest) i = rw (run-kept r₀ earlier .rollover, highest-is k) reach in
       let eb : b ≡ sentAs k (r .session) p i =
       made .bytes ∙ sym (protected-is k u p i) ∙ ap (λ (s : Session). sentAs k s p i) (sym session-is) in
       ap (λ (x : List ℕ). receive k r x room) eb
@@ -162,9 +180,9 @@ module _ (u : SetUp) (rollover : ℕ) (number : LastNumber) (w : rollover < 2 ^ 
         stream = t .stream ∙ ap ssrcOf (sym session-is);
         fits = fits;
         below = below-of k p i (t .has-index);
-        new = new-is k i new (not-old k rollover _ i reach);
+        new = new-is k i new (not-old (hasWholeIndex k u i) rollover _ i reach);
       })
-      (finds k r p i (t .has-index) reach′)
+      (finds k u r p i session-is (t .has-index) reach′)
 
 module _ (u : SetUp) (rollover : ℕ) (number : LastNumber) where
   pub receiver-demand3 : rollover < 2 ^ 32 → NumberFits number → (calls : List Call) → ReceiverDemand3 u rollover number calls

@@ -14,3 +14,4 @@ mod SetUpLaws
 pub mod Demand1
 pub mod Demand2
 pub mod Demand3
+pub mod DefaultIntegrity

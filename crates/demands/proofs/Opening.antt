@@ -15,13 +15,13 @@ use Rattle.rtp.specs.Rtp.{isRtp, sequenceNumber, rtpSsrc}
 use Rattle.rtp.specs.Rtcp.{isRtcp, rtcpSsrc}
 use Rattle.rtp.specs.Protected.{mkiOf, tagOf, rtcpPortion, wordOf, indexWord}
 use Rattle.rtp.proofs.IndexWordLaws.{word-flag, word-index}
-use Rattle.replay.specs.Index.{maxMediaIndex, estimate}
+use Rattle.replay.specs.Index.{maxMediaIndex}
 use Rattle.session.specs.declared.Session.{Session}
 use Rattle.srtp.specs.declared.Receiver.{Receiver}
 use Rattle.srtp.specs.Outcomes.{done}
 use Rattle.session.specs.Packets.{controlTagLength, cipherOf, ssrcOf, tagLength, mkiBytes, cipheredMedia, mediaTag, srtp, encrypts, cipheredControl, controlPortion, controlTag, srtcp}
 use Rattle.session.specs.SetUps.{settingsListed}
-use Rattle.srtp.specs.Calls.{maxPacketLength, isOld, isRepeat, mediaPortion, mediaIndex, receiveMediaRows, mediaOpened, receiveMedia, controlReceived, controlIndex, receiveControlRows, controlOpened, receiveControl}
+use Rattle.srtp.specs.Calls.{maxPacketLength, isOld, isRepeat, mediaPortion, mediaPlace, mediaIndex, receiveMediaRows, mediaOpened, receiveMedia, controlReceived, controlIndex, receiveControlRows, controlOpened, receiveControl}
 use Rattle.demands.specs.Runs.{Kind, media, control, receive}
 use Rattle.demands.proofs.RowLaws.{none, _also_, rows-pass}
 use Rattle.demands.proofs.MediaLaws.{media-twice, media-length, media-rtp, media-number, media-ssrc, srtp-portion, srtp-mki, srtp-tag}
@@ -29,9 +29,9 @@ use Rattle.demands.proofs.ControlLaws.{control-twice, control-length, c
 use Rattle.demands.proofs.PacketKinds.{sentAs, marked, Admits}
 use Rattle.demands.proofs.ReceiverRuns.{receiver-settings}
 
--- the index that the receiver finds is i: for media by its estimate; for control it is read
+-- the index that the receiver finds is i: for media by number and tag; for control it is in the packet
 abbrev pub Finds : Kind → Receiver → (packet : List ℕ) → (index : ℕ) → Type 0
-Finds media r p i = estimate (r .rollover) (sequenceNumber p) (r .media .highest) ≡ pos i
+Finds media r p i = mediaPlace r (sequenceNumber p) (mediaTag (r .session) (cipheredMedia (r .session) p i) i) ≡ pos i
 Finds control r p i = Unit {0}
 
 module _ (r : Receiver) (p : List ℕ) (i room : ℕ) where
@@ -43,7 +43,7 @@ module _ (r : Receiver) (p : List ℕ) (i room : ℕ) where
       let b : List ℕ = srtp s p i in
       let g : settingsListed (s .settings) ≡ true = receiver-settings r (h .row1) in
       let a : mediaPortion s b ≡ c = srtp-portion s p i g in
-      let index : mediaIndex r b ≡ pos i = rw (a, media-number s i p (h .shape)) f in
+      let index : mediaIndex r b ≡ pos i = rw (a, media-number s i p (h .shape), srtp-tag s p i g) f in
       let len : length c ≡ length p = media-length s i p (h .shape) in
       let setup = ap not (h .row1) in
       let long : ltb maxPacketLength (length (mediaPortion s b)) ≡ false =

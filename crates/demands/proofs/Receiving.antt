@@ -1,7 +1,8 @@
 -- What a receiving call that accepts a packet has tested, and what it leaves. Assumes nothing.
-use Prim.Native.Nat.{ℕ, _-_, _^_, _≤_}
+use Prim.Native.Nat.{ℕ, _-_, _%_, _^_, _≤_, _<_}
+use native.Mathlib.Omega.{arith}
 use mathlib.Core.Path.{_≡_, refl, ap, _∙_}
-use mathlib.Core.Bool.{Bool, true, false, true≢false}
+use mathlib.Core.Bool.{Bool, true, false, cond, true≢false}
 use mathlib.Core.List.{List}
 use lib.IntN.{ℤ, pos, negsuc}
 use lib.ListN.{length}
@@ -14,7 +15,8 @@ use Rattle.rtp.specs.Protected.{mkiOf, tagOf, rtcpPortion, wordOf, eFlag}
 use Rattle.rtp.proofs.RtpLaws.{number-lt}
 use Rattle.rtp.proofs.TrailerLaws.{portion-bytes}
 use Rattle.rtp.proofs.IndexWordLaws.{index-most}
-use Rattle.replay.specs.Index.{maxMediaIndex}
+use Rattle.transforms.specs.Rcc.{carriesCounter, carriedCounter}
+use Rattle.replay.specs.Index.{maxMediaIndex, indexOf, estimate}
 use Rattle.replay.specs.Window.{windowLength, windowVerdict}
 use Rattle.replay.specs.declared.window.Window.{Window}
 use Rattle.replay.specs.declared.window.Verdict.{Verdict}
@@ -23,8 +25,8 @@ use Rattle.replay.proofs.IndexLaws.{estimate-number}
 use Rattle.session.specs.declared.Session.{Session}
 use Rattle.srtp.specs.declared.Receiver.{Receiver}
 use Rattle.srtp.specs.Outcomes.{done}
-use Rattle.session.specs.Packets.{controlTagLength, tagLength, mkiBytes, cipheredMedia, mediaTag, cipheredControl, controlTag}
-use Rattle.srtp.specs.Calls.{tooHigh, isOld, isRepeat, old, natural, mediaPortion, mediaIndex, receiveMediaRows, mediaOpened, receiveMedia, controlReceived, controlIndex, receiveControlRows, controlOpened, receiveControl}
+use Rattle.session.specs.Packets.{controlTagLength, integrityOf, tagLength, mkiBytes, cipheredMedia, mediaTag, cipheredControl, controlTag}
+use Rattle.srtp.specs.Calls.{tooHigh, isOld, isRepeat, old, natural, mediaPortion, mediaPlace, mediaIndex, receiveMediaRows, mediaOpened, receiveMedia, controlReceived, controlIndex, receiveControlRows, controlOpened, receiveControl}
 use Rattle.demands.specs.Runs.{Kind, media, control, receive}
 use Rattle.demands.specs.Words.{HasIndex}
 use Rattle.demands.proofs.RowLaws.{NoneHolds, none, _also_, rows-done}
@@ -56,6 +58,14 @@ index-passes : (w : Window) (k : ℤ) → tooHigh k ≡ false → old w k ≡ fa
 index-passes w (pos i) a b c = record { new = is-new _ b c; below = ltb-false _ _ a; at = refl }
 index-passes w (negsuc j) a b c = absurd (true≢false b)
 
+-- an index that is found has the packet's number, read or estimated
+place-number : (r : Receiver) (q : ℕ) (t : List ℕ) (i : ℕ) → q < 65536 → mediaPlace r q t ≡ pos i → q ≡ i % 65536
+place-number r q t i l = go (carriesCounter (integrityOf (r .session)) q)
+  where
+    go : (b : Bool) → cond b (pos (indexOf (carriedCounter t) q)) (estimate (r .rollover) q (r .media .highest)) ≡ pos i → q ≡ i % 65536
+    go true e = let z : indexOf (carriedCounter t) q ≡ i = cc in omega arith
+    go false e = estimate-number (r .rollover) q (r .media .highest) i l e
+
 media-accepts : (r : Receiver) (b : List ℕ) (room : ℕ) (k : ℤ) (p : List ℕ) (i : ℕ) (r′ : Receiver) → mediaIndex r b ≡ k →
     NoneHolds (receiveMediaRows r b room k) → mediaOpened r b (natural k) ≡ done p i r′ → Accepts media r b room p i r′
 media-accepts r b room k p i r′ n
@@ -81,7 +91,7 @@ media-accepts r b room k p i r′ n
       tagged = rw e₁ at tag;
       has-index = λ q.
           let l = number-lt a (portion-bytes _ _ b q) in (
-            rw e₂ (media-number s i a g ∙ estimate-number (r .rollover) (sequenceNumber a) (r .media .highest) i l (n ∙ x .at ∙ ap pos e₁)),
+            rw e₂ (media-number s i a g ∙ place-number r (sequenceNumber a) (tagOf (tagLength s) b) i l (n ∙ x .at ∙ ap pos e₁)),
             rw e₁ at (x .below),
           );
       bytes = λ q. rw e₂ (srtp-back s b i g mki (rw e₁ at tag));

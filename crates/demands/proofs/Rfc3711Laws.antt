@@ -1,5 +1,5 @@
--- What set-up and session keys make of a packet is RFC 3711's, in its own terms. Assumes nothing.
-use Prim.Native.Nat.{ℕ, _+_, _/_, _^_}
+-- What set-up and session keys make of a packet is RFC 3711's, its media tag RFC 4771's, in their own terms. Assumes nothing.
+use Prim.Native.Nat.{ℕ, _+_, _-_, _/_, _%_, _^_}
 use mathlib.Core.Path.{_≡_, refl, sym, ap, _∙_}
 use mathlib.Core.Bool.{Bool, true, false, cond}
 use mathlib.Core.List.{List, _++_}
@@ -10,13 +10,14 @@ use Rattle.rtp.specs.Rtp.{header, payload}
 use Rattle.transforms.specs.KeyDerivation.{mediaLabel, controlLabel, sessionKeys}
 use Rattle.transforms.specs.Ciphers.{ciphered}
 use Rattle.transforms.specs.Tag as tag
+use Rattle.transforms.specs.Rcc.{carriesCounter, tagWith, integrityTag}
 use Rattle.transforms.specs.declared.Cipher.{Cipher}
 use Rattle.transforms.specs.declared.Cipher.the-variants.{Aes, Null}
 use Rattle.transforms.proofs.CipherLaws.{null-text, ciphered-from-start}
 use Rattle.transforms.proofs.DerivationLaws.{derived-session-keys}
 use Rattle.session.specs.Packets.{controlTagLength, cipheredMedia, mediaTag, srtp, cipheredControl, controlPortion, controlTag, srtcp}
 use Rattle.session.specs.SetUps.{SetUp, sessionOf, protectMedia, protectControl}
-use Rattle.demands.specs.Rfc3711.{encryptedBy, tagged, srtpTag, srtpPacket, srtcpTag, srtcpPacket}
+use Rattle.demands.specs.Rfc3711.{encryptedBy, tagged, srtpMac, srtpTag, srtpPacket, srtcpTag, srtcpPacket}
 use Rattle.demands.proofs.SettingLaws.{mki-kept}
 
 module _ (u : SetUp) where
@@ -34,12 +35,21 @@ module _ (u : SetUp) where
 
   -- ---- media
   pub media-tag : (a : List ℕ) (i : ℕ) → mediaTag (sessionOf u) a i ≡ srtpTag u a i
-  unfolding mediaTag tag.mediaTag sessionOf
-  media-tag a i = tagged-is mediaLabel (u .tagLength) (a ++ toBytes 4 (i / 2 ^ 16))
+  unfolding mediaTag integrityTag tag.mediaTag sessionOf
+  media-tag a i = go (carriesCounter (u .profile .integrity) (i % 2 ^ 16))
+    where
+      n : ℕ
+      n = u .profile .«tag_len»
 
-  media-text : (p : List ℕ) (i : ℕ) → cipheredMedia (sessionOf u) p i ≡ header p ++ encryptedBy u (u .cipher) mediaLabel i (payload p)
+      -- whether the tag carries the rollover counter or not
+      go : (b : Bool) → tagWith b n (sessionKeys mediaLabel (u .masterKey) (u .masterSalt)) a i
+          ≡ cond b (toBytes 4 (i / 2 ^ 16) ++ srtpMac u (n - 4) a i) (srtpMac u n a i)
+      go true = ap (λ (x : List ℕ). toBytes 4 (i / 2 ^ 16) ++ x) (tagged-is mediaLabel (n - 4) (a ++ toBytes 4 (i / 2 ^ 16)))
+      go false = tagged-is mediaLabel n (a ++ toBytes 4 (i / 2 ^ 16))
+
+  media-text : (p : List ℕ) (i : ℕ) → cipheredMedia (sessionOf u) p i ≡ header p ++ encryptedBy u (u .profile .cipher) mediaLabel i (payload p)
   unfolding cipheredMedia sessionOf
-  media-text p i = ap (λ (x : List ℕ). header p ++ x) (encrypted-is (u .cipher) mediaLabel i (header p) (payload p))
+  media-text p i = ap (λ (x : List ℕ). header p ++ x) (encrypted-is (u .profile .cipher) mediaLabel i (header p) (payload p))
 
   pub protect-media : (p : List ℕ) (i : ℕ) → protectMedia u p i ≡ srtpPacket u p i
   unfolding protectMedia srtp
@@ -51,9 +61,9 @@ module _ (u : SetUp) where
   control-tag a = tagged-is controlLabel controlTagLength a
 
   control-text : (e : Bool) (p : List ℕ) (i : ℕ) →
-      cipheredControl (sessionOf u) e p i ≡ take 8 p ++ cond e (encryptedBy u (u .cipher) controlLabel i (drop 8 p)) (drop 8 p)
+      cipheredControl (sessionOf u) e p i ≡ take 8 p ++ cond e (encryptedBy u (u .profile .cipher) controlLabel i (drop 8 p)) (drop 8 p)
   unfolding cipheredControl sessionOf
-  control-text true p i = ap (λ (x : List ℕ). take 8 p ++ x) (encrypted-is (u .cipher) controlLabel i (take 8 p) (drop 8 p))
+  control-text true p i = ap (λ (x : List ℕ). take 8 p ++ x) (encrypted-is (u .profile .cipher) controlLabel i (take 8 p) (drop 8 p))
   control-text false p i = refl
 
   pub protect-control : (e : Bool) (p : List ℕ) (i : ℕ) → protectControl u e p i ≡ srtcpPacket u e p i

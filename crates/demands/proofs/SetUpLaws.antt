@@ -23,7 +23,7 @@ use Rattle.demands.proofs.ReceiverRuns.{run-kept}
 pub protected-is : (k : Kind) (u : SetUp) (p : List ℕ) (i : ℕ) → sentAs k (sessionOf u) p i ≡ protected k u p i
 unfolding protectMedia protectControl sessionOf
 protected-is media u p i = protect-media u p i
-protected-is control u p i = protect-control u (encrypts (u .cipher)) p i
+protected-is control u p i = protect-control u (encrypts (u .profile .cipher)) p i
 
 -- ---- the session of a run
 abbrev firstSession : SetUp → Session

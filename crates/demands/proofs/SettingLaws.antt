@@ -1,17 +1,18 @@
 -- Laws of settings: what a set-up that is not refused says of its session, and the lengths that go with one. Assumes nothing.
-use Prim.Native.Nat.{ℕ, _≤_}
+use Prim.Native.Nat.{ℕ}
 use native.Mathlib.Omega.{arith}
-use mathlib.Core.Path.{_≡_, refl}
-use mathlib.Core.Bool.{Bool, true, false, _&&_, _||_}
+use mathlib.Core.Path.{_≡_}
+use mathlib.Core.Bool.{Bool, true, _&&_}
 use mathlib.Core.List.{List}
-use lib.Dec.{eqb, leb}
+use lib.Dec.{eqb}
 use lib.ListN.{length, replicate}
-use borrow.Author.Tests.{eqb-true}
 use Rattle.octets.proofs.BufferLaws.{take-over}
 use Rattle.rtp.proofs.AnswerLaws.{both}
 use Rattle.transforms.proofs.TagLaws as tag
+use Rattle.transforms.proofs.RccLaws.{length-integrityTag}
+use Rattle.session.proofs.SessionLaws.{settings-listed}
 use Rattle.session.specs.declared.Session.{Session}
-use Rattle.session.specs.Packets.{controlTagLength, tagLength, mkiBytes, mediaTag, controlTag}
+use Rattle.session.specs.Packets.{controlTagLength, integrityOf, tagLength, mkiBytes, mediaTag, controlTag}
 use Rattle.session.specs.SetUps.{SetUp, settingsListed, listed, sessionOf}
 
 -- a context keeps the MKI of its set-up
@@ -28,16 +29,11 @@ session-listed u g =
 
 -- ---- lengths of tags
 module _ (s : Session) where
-  tag-most : settingsListed (s .settings) ≡ true → tagLength s ≤ 20
-  tag-most g = go (eqb (tagLength s) 4) refl (both (leb (s .settings .«mki_len») 4) _ g .1)
-    where
-      go : (t : Bool) → eqb (tagLength s) 4 ≡ t → (t || eqb (tagLength s) 10) ≡ true → tagLength s ≤ 20
-      go true e h = omega (arith, eqb-true (tagLength s) 4 e)
-      go false e h = omega (arith, eqb-true (tagLength s) 10 h)
-
   pub length-mediaTag : settingsListed (s .settings) ≡ true → (a : List ℕ) (i : ℕ) → length (mediaTag s a i) ≡ tagLength s
   unfolding mediaTag
-  length-mediaTag g a i = tag.length-mediaTag (tagLength s) (s .media) a i (tag-most g)
+  length-mediaTag g a i =
+      let l = settings-listed (s .settings) g in
+      length-integrityTag (tagLength s) (s .media) a i (l .least) (omega (arith, l .most)) (integrityOf s)
 
   pub length-controlTag : (a : List ℕ) → length (controlTag s a) ≡ controlTagLength
   unfolding controlTag

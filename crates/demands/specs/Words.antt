@@ -1,5 +1,5 @@
 -- The words of demands 2 and 3 (01, 'The words of demand 3'), in terms of the set-up and the list of calls. What 01 calls one set-up is
--- one value of `SetUp`. Assumes nothing.
+-- one value of `SetUp`, the integrity transform and its rate among its settings. Assumes nothing.
 use Prim.Native.Nat.{ℕ, _+_, _-_, _/_, _%_, _^_, _≤_, _<_}
 use mathlib.Core.Path.{_≡_}
 use mathlib.Core.Bool.{Bool, true, false}
@@ -8,6 +8,7 @@ use lib.ListN.{length, take}
 use Rattle.rtp.specs.Rtp.{isRtp, sequenceNumber, rtpSsrc}
 use Rattle.rtp.specs.Rtcp.{isRtcp, rtcpSsrc}
 use Rattle.rtp.specs.Protected.{authenticatedPortion, tagOf, wordOf, eFlag}
+use Rattle.transforms.specs.Rcc.{carriesCounter}
 use Rattle.replay.specs.Accepted.{mem, highestOf}
 use Rattle.replay.specs.declared.index.Highest.{Highest}
 use Rattle.replay.specs.declared.index.Highest.the-variants.{Absent, At}
@@ -45,7 +46,7 @@ pub record Finishes {S : Type 0} (o : Outcome S) (buffer b : List ℕ) (i : ℕ)
 -- what RFC 3711 makes of the plain packet p at index i, for control with the sender's E
 abbrev pub protected : Kind → SetUp → (packet : List ℕ) → (index : ℕ) → List ℕ
 protected media u p i = srtpPacket u p i
-protected control u p i = srtcpPacket u (encrypts (u .cipher)) p i
+protected control u p i = srtcpPacket u (encrypts (u .profile .cipher)) p i
 
 abbrev pub isPacket : Kind → List ℕ → Bool
 isPacket media = isRtp
@@ -85,7 +86,9 @@ protectedAs control u b p i = srtcpPacket u (receivedE u b) p i
 
 -- its tag is the one for index i (a control packet's index is in the bytes that the tag is over)
 abbrev pub TagFor : Kind → SetUp → (received : List ℕ) → (index : ℕ) → Type 0
-TagFor media u b i = tagOf (u .tagLength) b ≡ srtpTag u (authenticatedPortion (length (u .mki)) (u .tagLength) b) i
+TagFor media u b i =
+    let n = u .profile .«tag_len» in
+    tagOf n b ≡ srtpTag u (authenticatedPortion (length (u .mki)) n b) i
 TagFor control u b i = tagOf controlTagLength b ≡ srtcpTag u (authenticatedPortion (length (u .mki)) controlTagLength b)
 
 -- ---- a receiver's list of calls
@@ -93,13 +96,19 @@ TagFor control u b i = tagOf controlTagLength b ≡ srtcpTag u (authenticatedPor
 abbrev pub Carries : (index rollover : ℕ) → Type 0
 Carries i rollover = i / 65536 ≡ rollover
 
--- at most 63 behind the highest index and, for media, at most 32,767 ahead of it; with no highest index a media packet carries the
--- rollover counter that set-up gave, and a control packet may have any index
-abbrev pub Reaches : Kind → (rollover : ℕ) → Highest → (index : ℕ) → Type 0
-Reaches media rollover Absent i = Carries i rollover
-Reaches media rollover (At h) i = (h ≤ i + 63) × (i ≤ h + 32767)
-Reaches control rollover Absent i = Unit {0}
-Reaches control rollover (At h) i = h ≤ i + 63
+-- whether a packet has its whole index in it: a control packet always (RFC 3711, 3.4), a media packet where its tag carries the rollover
+-- counter (RFC 4771, 2)
+abbrev pub hasWholeIndex : Kind → SetUp → (index : ℕ) → Bool
+hasWholeIndex media u i = carriesCounter (u .profile .integrity) (i % 65536)
+hasWholeIndex control u i = true
+
+-- at most 63 behind the highest index. A packet without its whole index is at most 32,767 ahead of it too, and carries the rollover counter
+-- that set-up gave where there is no highest index; one that has it may be ahead by any amount, and have any index where there is none
+abbrev pub Reaches : (whole : Bool) → (rollover : ℕ) → Highest → (index : ℕ) → Type 0
+Reaches false rollover Absent i = Carries i rollover
+Reaches false rollover (At h) i = (h ≤ i + 63) × (i ≤ h + 32767)
+Reaches true rollover Absent i = Unit {0}
+Reaches true rollover (At h) i = h ≤ i + 63
 
 module _ (u : SetUp) (rollover : ℕ) (number : LastNumber) where
   -- the indices accepted as k (01: let in) by a list of calls from set-up on
@@ -120,7 +129,7 @@ module _ (u : SetUp) (rollover : ℕ) (number : LastNumber) where
   New k cs i = mem i (acceptedAs k cs) ≡ false
 
   abbrev pub WithinReach : Kind → List Call → (index : ℕ) → Type 0
-  WithinReach k cs i = Reaches k rollover (highest k cs) i
+  WithinReach k cs i = Reaches (hasWholeIndex k u i) rollover (highest k cs) i
 
 -- what set-up is given is a 32-bit rollover counter and a 16-bit sequence number
 abbrev pub NumberFits : LastNumber → Type 0

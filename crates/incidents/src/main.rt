@@ -2,15 +2,19 @@
 mod cases;
 mod damage;
 mod ends;
+mod late_joiner;
 mod packet;
 mod repeats;
 mod rollover;
 mod say;
+mod set_ups;
 
 fn main() {
     repeats::run();
     rollover::run();
     damage::run();
+    late_joiner::run();
     cases::run();
     ends::run();
+    set_ups::run();
 }

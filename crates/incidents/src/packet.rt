@@ -1,31 +1,49 @@
-// The stream of these runs: one set-up for sender and receiver, and packets of a header and four bytes of text. A protected one has ten bytes
-// of tag behind it and no MKI.
+// The stream of these runs: one set-up for sender and receiver, and packets of a header and four bytes of text. There is no MKI; where nothing
+// else is said, a protected packet has ten bytes of tag behind it.
 use crate::say;
+use session::Profile;
 use srtp::Answer;
 use srtp::LastNumber;
 use srtp::Receiver;
 use srtp::Sender;
+use srtp::SenderSetUp;
 use transforms::Cipher;
+use transforms::Integrity;
 
 pub fn sender() -> Sender {
+    set_up_sender(usual()).context
+}
+
+pub fn receiver() -> Receiver {
+    set_up_receiver(usual())
+}
+
+fn usual() -> Profile {
+    Profile {
+        cipher: Cipher::Aes,
+        integrity: Integrity::HmacSha1,
+        tag_len: Profile::TAG_LEN,
+    }
+}
+
+pub fn set_up_sender(profile: Profile) -> SenderSetUp {
     Sender::set_up(
         0xcafe_babe,
         b"sale-room key 16",
         b"sale salt of14",
         b"",
-        10,
-        Cipher::Aes,
-    ).context
+        profile,
+    )
 }
 
-pub fn receiver() -> Receiver {
+// A receiver with rollover counter 0.
+pub fn set_up_receiver(profile: Profile) -> Receiver {
     Receiver::set_up(
         0xcafe_babe,
         b"sale-room key 16",
         b"sale salt of14",
         b"",
-        10,
-        Cipher::Aes,
+        profile,
         0,
         LastNumber::Unknown,
     ).context
@@ -55,8 +73,8 @@ pub fn plain(number: u16) -> [u8; 16] {
     ]
 }
 
-// Sends the packet with this number, protected into `out`.
-pub fn send(s: Sender, number: u16, out: &mut [u8; 26]) -> Sender {
+// Sends the packet with this number, protected into `out`, which is as long as that.
+fn send_into(s: Sender, number: u16, out: &mut [u8]) -> Sender {
     let p = plain(number);
     let after = s.send_media(&p, out);
     let answer = after.answer;
@@ -65,7 +83,7 @@ pub fn send(s: Sender, number: u16, out: &mut [u8; 26]) -> Sender {
 }
 
 // Receives what was sent as the packet with this number, and compares what comes out with it.
-pub fn receive(r: Receiver, number: u16, packet: &[u8; 26]) -> Receiver {
+fn receive_from(r: Receiver, number: u16, packet: &[u8]) -> Receiver {
     let mut out = [0u8; 16];
     let after = r.receive_media(packet, &mut out);
     let answer = after.answer;
@@ -80,6 +98,15 @@ pub fn receive(r: Receiver, number: u16, packet: &[u8; 26]) -> Receiver {
     after.next
 }
 
+// Both with the usual tag, in an array: its length need not be shown by the caller.
+pub fn send(s: Sender, number: u16, out: &mut [u8; 26]) -> Sender {
+    send_into(s, number, out)
+}
+
+pub fn receive(r: Receiver, number: u16, packet: &[u8; 26]) -> Receiver {
+    receive_from(r, number, packet)
+}
+
 // A sender and the receiver at the other end.
 pub struct Link {
     pub sender: Sender,
@@ -87,31 +114,36 @@ pub struct Link {
 }
 
 impl Link {
-    // Sends a packet and receives it at once.
-    pub fn deliver(self, number: u16) -> Link {
-        let mut out = [0u8; 26];
+    // Sends a packet, protected into `out`, which is as long as that.
+    pub fn send(self, number: u16, out: &mut [u8]) -> Link {
         let sender = self.sender;
-        let sent = send(sender, number, &mut out);
+        let sent = send_into(sender, number, out);
         let mut link = self;
         link.sender = sent;
-        link.receive(number, &out)
+        link
     }
 
     // Receives a packet that was sent before.
-    pub fn receive(self, number: u16, packet: &[u8; 26]) -> Link {
+    pub fn receive(self, number: u16, packet: &[u8]) -> Link {
         let receiver = self.receiver;
-        let received = receive(receiver, number, packet);
+        let received = receive_from(receiver, number, packet);
         let mut link = self;
         link.receiver = received;
         link
     }
 
-    // The packets from number `from` up to, not including, number `to`.
+    // Sends a packet and receives it at once.
+    pub fn deliver(self, number: u16, out: &mut [u8]) -> Link {
+        self.send(number, out).receive(number, out)
+    }
+
+    // The packets from number `from` up to, not including, number `to`, with the usual tag.
     pub fn deliver_all(self, from: u16, to: u16) -> Link {
         let mut link = self;
         let mut number = from;
         while number < to {
-            link = link.deliver(number);
+            let mut out = [0u8; 26];
+            link = link.deliver(number, &mut out);
             number += 1;
         }
         link

@@ -1,5 +1,6 @@
 // Answers in words, behind the call and the number of its packet.
 use srtp::Answer;
+use srtp::SetUpAnswer;
 
 pub fn sent(number: u16, answer: Answer) {
     words::text(b"  send number ");
@@ -17,6 +18,17 @@ pub fn received(number: u16, answer: Answer) {
 pub fn sent_control(answer: Answer) {
     words::text(b"  send control");
     said(b"sent", answer);
+}
+
+// A set-up, behind its values.
+pub fn set_up(values: &[u8], answer: SetUpAnswer) {
+    words::text(b"  set up with ");
+    words::text(values);
+    words::text(b": ");
+    match answer {
+        SetUpAnswer::Ready => words::line(b"ready"),
+        SetUpAnswer::Refused(refusal) => words::refused(refusal),
+    }
 }
 
 fn said(done: &[u8], answer: Answer) {

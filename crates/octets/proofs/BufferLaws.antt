@@ -17,6 +17,11 @@ pub take-over : (bs d : List ℕ) → take (length bs) (over bs d) ≡ bs
 unfolding over
 take-over bs d = take-append-seam bs (drop (length bs) d)
 
+-- nothing is left of a buffer that is no longer
+pub over-whole : (bs d : List ℕ) → length d ≤ length bs → over bs d ≡ bs
+unfolding over
+over-whole bs d h = rw (drop-of-length-le d h) (append-nil bs)
+
 pub drop-over : (bs d : List ℕ) → drop (length bs) (over bs d) ≡ drop (length bs) d
 unfolding over
 drop-over bs d = drop-append-seam bs (drop (length bs) d)

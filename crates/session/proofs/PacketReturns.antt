@@ -10,9 +10,11 @@ use Rattle.octets.proofs.BufferLaws.{take-over, overAt-over, overAt-append}
 use Rattle.octets.specs.BigEndian.{toBytes}
 use Rattle.octets.specs.Buffer.{over, overAt}
 use Rattle.rtp.specs.Protected.{indexWord}
-use Rattle.transforms.proofs.TagLaws.{take-mediaTag, take-controlTag}
+use Rattle.transforms.proofs.TagLaws.{take-controlTag}
+use Rattle.transforms.proofs.RccLaws.{take-integrityTag}
 use Rattle.transforms.specs.Tag as tag
-use Rattle.session.specs.Packets.{tagLength, mkiBytes, cipheredMedia, mediaTag, srtp, cipheredControl, controlPortion, controlTag, srtcp}
+use Rattle.transforms.specs.Rcc.{integrityTag}
+use Rattle.session.specs.Packets.{integrityOf, tagLength, mkiBytes, cipheredMedia, mediaTag, srtp, cipheredControl, controlPortion, controlTag, srtcp}
 use Rattle.session.specs.declared.Session.{Session}
 use Rattle.session.proofs.SessionLaws.{mki-length, length-cipheredMedia, length-cipheredControl}
 
@@ -48,15 +50,17 @@ module _ (s : Session) (i : ℕ) (p d e f h : List ℕ) (r : ℕ) (four : length
   behind n x y ef t = ef ∙ ap (λ (l : List ℕ). overAt n (mkiBytes s ++ l) e) t
 
   -- ---- Session::protect_media
-  pub media-written : tagLength s ≤ 20 → e ≡ over (cipheredMedia s p i) d → h ≡ tag.mediaTag 20 (s .media) (take (length p) e) i
+  pub media-written : 4 ≤ tagLength s → tagLength s ≤ 20 → e ≡ over (cipheredMedia s p i) d
+      → h ≡ integrityTag (integrityOf s) 20 (s .media) (take (length p) e) i
       → Finished (length p) (tagLength s) → (r ≡ length (srtp s p i)) × (f ≡ over (srtp s p i) d)
   unfolding srtp mediaTag mkiBytes
-  media-written l ee eh w =
+  media-written least most ee eh w =
       let a : List ℕ = cipheredMedia s p i in
       let n : length p ≡ length a = sym (length-cipheredMedia s p i) in
       let x : take (length p) e ≡ a = front a d e (length p) n ee in
       let t : take (tagLength s) h ≡ mediaTag s a i =
-      ap (take (tagLength s)) (eh ∙ ap (λ (m : List ℕ). tag.mediaTag 20 (s .media) m i) x) ∙ take-mediaTag (tagLength s) (s .media) a 20 i l in
+      ap (take (tagLength s)) (eh ∙ ap (λ (m : List ℕ). integrityTag (integrityOf s) 20 (s .media) m i) x)
+      ∙ take-integrityTag (tagLength s) (s .media) a i least most (integrityOf s) in
       finished a (mkiBytes s) (mediaTag s a i) d e f (length p) r n ee (behind (length p) _ _ (w .0) t) (w .1 ∙ omega (arith, size, ap length t))
 
   -- ---- Session::protect_control

@@ -1,4 +1,4 @@
--- RFC 3711, sections 3.1, 3.3 and 3.4: what a packet becomes under a session, at an index. Assumes nothing.
+-- RFC 3711, sections 3.1, 3.3 and 3.4, and RFC 4771: what a packet becomes under a session, at an index. Assumes nothing.
 use Prim.Native.Nat.{ℕ}
 use mathlib.Core.Bool.{Bool, true, false, cond}
 use mathlib.Core.List.{List, _++_}
@@ -9,7 +9,9 @@ use Rattle.rtp.specs.Protected.{indexWord}
 use Rattle.transforms.specs.declared.Cipher.{Cipher}
 use Rattle.transforms.specs.declared.Cipher.the-variants.{Aes, Null}
 use Rattle.transforms.specs.Ciphers.{ciphered}
+use Rattle.transforms.specs.declared.Integrity.{Integrity}
 use Rattle.transforms.specs.Tag as tag
+use Rattle.transforms.specs.Rcc.{integrityTag}
 use Rattle.session.specs.declared.Session.{Session}
 
 -- the control tag is always 10 bytes
@@ -19,6 +21,9 @@ controlTagLength = 10
 -- the settings that packets are under
 abbrev pub cipherOf : Session → Cipher
 cipherOf s = s .settings .profile .cipher
+
+abbrev pub integrityOf : Session → Integrity
+integrityOf s = s .settings .profile .integrity
 
 abbrev pub ssrcOf : Session → ℕ
 ssrcOf s = s .settings .ssrc
@@ -34,9 +39,9 @@ mkiBytes s = take (s .settings .«mki_len») (s .settings .mki)
 unfoldable pub cipheredMedia : Session → List ℕ → ℕ → List ℕ
 cipheredMedia s p i = header p ++ ciphered (cipherOf s) (s .media) (ssrcOf s) i (header p) (payload p)
 
--- the tag over header, enciphered payload and the rollover counter of the packet's index
+-- the tag over header, enciphered payload and the rollover counter of the packet's index, which RFC 4771's carries on some packets
 unfoldable pub mediaTag : Session → List ℕ → ℕ → List ℕ
-mediaTag s a i = tag.mediaTag (tagLength s) (s .media) a i
+mediaTag s a i = integrityTag (integrityOf s) (tagLength s) (s .media) a i
 
 -- and MKI and tag behind it
 unfoldable pub srtp : Session → List ℕ → ℕ → List ℕ

@@ -1,14 +1,17 @@
-// A session: the settings and session keys of one stream, and the packet that RFC 3711 makes of a plain one under them at an index (3.1,
-// 3.4). It has no state: index and replay window stand above.
+// A session: the settings and session keys of one stream, and the packet that RFC 3711 (3.1, 3.4), or RFC 4771 by its integrity transform,
+// makes of a plain one under them at an index. It has no state: index and replay window stand above.
 mod packets;
 mod setup;
 
 use transforms::Cipher;
+use transforms::Integrity;
 use transforms::SessionKeys;
 
-// A protection profile: a cipher and the length of the media tag. Every length that goes with a profile is named here.
+// A protection profile: a cipher, an integrity transform and the length of the media tag. Every length that goes with a profile is named
+// here.
 pub struct Profile {
     pub cipher: Cipher,
+    pub integrity: Integrity,
     pub tag_len: usize,
 }
 
@@ -22,6 +25,8 @@ impl Profile {
     pub const TAG_LEN: usize = 10;
 
     pub const SHORT_TAG_LEN: usize = 4;
+    // With the rollover counter in it (RFC 4771, 5).
+    pub const RCC_TAG_LEN: usize = 14;
 
     pub const CONTROL_TAG_LEN: usize = 10;
     // The longest plain packet.

@@ -1,4 +1,4 @@
-// Packets under a session (RFC 3711, 3.1 and 3.4): ciphered, and with what a protected packet ends in.
+// Packets under a session (RFC 3711, 3.1 and 3.4, RFC 4771): ciphered, and with what a protected packet ends in.
 ghost use mathlib.Core.Path.{_≡_};
 ghost use mathlib.Core.List.{_++_};
 ghost use Prim.Native.Nat.{_+_, _^_, _≤_, _<_};
@@ -139,7 +139,7 @@ fn encrypts(cipher: Cipher) -> bool
 }
 
 impl Session {
-    // Writes the SRTP packet (RFC 3711, 3.1) over the start of `out`. Answers its length.
+    // Writes the SRTP packet (RFC 3711, 3.1), its tag by the integrity transform, over the start of `out`. Answers its length.
     pub fn protect_media(
         self,
         packet: &[u8],
@@ -149,7 +149,7 @@ impl Session {
     ) -> usize
         requires { ⌜ («header_len» ≡ headerLength (now packet)) × («header_len» ≤ length (now packet)) ⌝ }
         requires { ⌜ (index < 2 ^ 48) × (length (now packet) ≤ 2048) ⌝ }
-        requires { ⌜ (self .settings .«mki_len» ≤ 4) × (self .settings .profile .«tag_len» ≤ 10) ⌝ }
+        requires { ⌜ (self .settings .«mki_len» ≤ 4) × (4 ≤ self .settings .profile .«tag_len») × (self .settings .profile .«tag_len» ≤ 14) ⌝ }
         requires { ⌜ length (now packet) + self .settings .«mki_len» + self .settings .profile .«tag_len» ≤ length (now out) ⌝ }
         ensures size { λ r. ⌜ r ≡ length (srtp self (now (packet .entry)) index) ⌝ }
         ensures written { λ _. ⌜ now (out .exit) ≡ over (srtp self (now (packet .entry)) index) (now (out .entry)) ⌝ }
@@ -157,10 +157,12 @@ impl Session {
         let t = aes::sbox();
         self.cipher_media(&t, packet, header_len, index, out);
         let n = packet.len();
-        let keys = self.media;
-        let tag = transforms::media_tag(keys, &out[..n], index);
         let settings = self.settings;
-        let tag_len = settings.profile.tag_len;
+        let profile = settings.profile;
+        let integrity = profile.integrity;
+        let keys = self.media;
+        let tag = transforms::media_tag(integrity, keys, &out[..n], index);
+        let tag_len = profile.tag_len;
         settings.finish(&tag[..tag_len], n, out)
     }
 

@@ -2,34 +2,50 @@
 ghost use mathlib.Core.Path.{_≡_};
 ghost use Prim.Native.Nat.{_≤_};
 ghost use lib.ListN.{length};
-ghost use Rattle.session.specs.SetUps.{SetUp, lengthsListed, setUpListed, settingsListed, sessionOf, noKeys, closedSession};
+ghost use Rattle.session.specs.SetUps.{SetUp, tagListed, lengthsListed, settingsListed, setUpListed, sessionOf, noKeys, closedSession};
 use crate::Profile;
 use crate::Session;
 use crate::Settings;
 use transforms::Cipher;
+use transforms::Integrity;
 use transforms::SessionKeys;
 
 // ---- the list
 
-// An MKI of 0 to 4 bytes and a media tag of 4 or 10.
-fn lengths_listed(mki_len: usize, tag_len: usize) -> bool
-    ensures { λ r. ⌜ r ≡ lengthsListed «mki_len» «tag_len» ⌝ }
+// A media tag of 4 or 10 bytes; under RFC 4771 one of 14, at a rate from 1 on.
+fn tag_listed(integrity: Integrity, tag_len: usize) -> bool
+    ensures { λ r. ⌜ r ≡ tagListed integrity «tag_len» ⌝ }
+{
+    let Integrity::Rccm2(rate) = integrity else {
+        if tag_len == Profile::SHORT_TAG_LEN {
+            return true;
+        }
+        return tag_len == Profile::TAG_LEN;
+    };
+    if rate == 0 {
+        return false;
+    }
+    tag_len == Profile::RCC_TAG_LEN
+}
+
+// An MKI of 0 to 4 bytes, and such a tag.
+fn lengths_listed(mki_len: usize, profile: Profile) -> bool
+    ensures { λ r. ⌜ r ≡ lengthsListed «mki_len» profile ⌝ }
 {
     if mki_len > Profile::MAX_MKI_LEN {
         return false;
     }
-    if tag_len == Profile::SHORT_TAG_LEN {
-        return true;
-    }
-    tag_len == Profile::TAG_LEN
+    let integrity = profile.integrity;
+    tag_listed(integrity, profile.tag_len)
 }
 
 impl Settings {
-    // Whether the lengths are on the list of set-up, which every call asks of the context that it is given.
+    // Whether the settings are on the list of set-up, which every call asks of the context that it is given.
     pub fn listed(self) -> bool
         ensures { λ r. ⌜ r ≡ settingsListed self ⌝ }
     {
-        lengths_listed(self.mki_len, self.profile.tag_len)
+        let profile = self.profile;
+        lengths_listed(self.mki_len, profile)
     }
 }
 
@@ -65,6 +81,7 @@ impl Session {
             settings: Settings {
                 profile: Profile {
                     cipher: Cipher::Null,
+                    integrity: Integrity::HmacSha1,
                     tag_len: 0,
                 },
                 ssrc: 0,
@@ -78,9 +95,9 @@ impl Session {
 }
 
 impl Session {
-    // Whether the lengths that set-up is given are on its list.
-    pub fn set_up_listed(key_len: usize, salt_len: usize, mki_len: usize, tag_len: usize) -> bool
-        ensures { λ r. ⌜ r ≡ setUpListed «key_len» «salt_len» «mki_len» «tag_len» ⌝ }
+    // Whether what set-up is given is on its list.
+    pub fn set_up_listed(key_len: usize, salt_len: usize, mki_len: usize, profile: Profile) -> bool
+        ensures { λ r. ⌜ r ≡ setUpListed «key_len» «salt_len» «mki_len» profile ⌝ }
     {
         if key_len != Profile::MASTER_KEY_LEN {
             return false;
@@ -88,20 +105,13 @@ impl Session {
         if salt_len != Profile::MASTER_SALT_LEN {
             return false;
         }
-        lengths_listed(mki_len, tag_len)
+        lengths_listed(mki_len, profile)
     }
 
     // The session of a set-up with listed lengths: its settings, and the session keys of media and of control.
-    pub fn derived(
-        ssrc: u32,
-        key: &[u8],
-        salt: &[u8],
-        mki: &[u8],
-        tag_len: usize,
-        cipher: Cipher,
-    ) -> Session
+    pub fn derived(ssrc: u32, key: &[u8], salt: &[u8], mki: &[u8], profile: Profile) -> Session
         requires { ⌜ (length (now key) ≡ 16) × (length (now salt) ≡ 14) × (length (now mki) ≤ 4) ⌝ }
-        ensures { λ r. ⌜ r ≡ sessionOf (record { ssrc = ssrc; masterKey = now (key .entry); masterSalt = now (salt .entry); mki = now (mki .entry); tagLength = «tag_len»; cipher = cipher }) ⌝ }
+        ensures { λ r. ⌜ r ≡ sessionOf (record { ssrc = ssrc; masterKey = now (key .entry); masterSalt = now (salt .entry); mki = now (mki .entry); profile = profile }) ⌝ }
     {
         let mut master_key = [0u8; Profile::MASTER_KEY_LEN];
         octets::copy_over(key, &mut master_key);
@@ -112,7 +122,7 @@ impl Session {
         let t = aes::sbox();
         Session {
             settings: Settings {
-                profile: Profile { cipher, tag_len },
+                profile,
                 ssrc,
                 mki: identifier,
                 mki_len: mki.len(),

@@ -7,11 +7,12 @@ use native.Mathlib.Omega.{arith}
 use borrow.Author.Tests.{lt-ltb, le-ltb, ltb-false, not-false}
 use lib.Dec.{ltb}
 use lib.IntN.{ℤ, pos, negsuc}
-use lib.ListN.{length, take, drop}
+use lib.ListN.{length, take, drop, length-drop}
+use Rattle.octets.specs.BigEndian.{fromBytes}
 use Rattle.octets.specs.Buffer.{over}
 use Rattle.octets.specs.Equal.{same}
 use Rattle.replay.proofs.IndexLaws.{PlacedAs, placed-as}
-use Rattle.replay.specs.Index.{maxMediaIndex, estimate, placed}
+use Rattle.replay.specs.Index.{maxMediaIndex, indexOf, estimate, placed}
 use Rattle.replay.specs.Window.{windowLength, windowMark}
 use Rattle.replay.specs.declared.index.Estimate.{Estimate}
 use Rattle.replay.specs.declared.index.Estimate.the-variants as estimated
@@ -23,11 +24,11 @@ use Rattle.rtp.specs.Protected.{mkiOf, srtpLayoutOf}
 use Rattle.rtp.specs.Rtp.{isRtp, headerLength, sequenceNumber, rtpSsrc}
 use Rattle.rtp.specs.declared.SrtpLayout.{SrtpLayout}
 use Rattle.rtp.specs.declared.SrtpLayout.the-variants.{Srtp, NotSrtp}
-use Rattle.transforms.specs.Tag as tag
-use Rattle.srtp.specs.Calls.{tooHigh, natural, mediaPortion, mediaIndex, receiveMediaRows, mediaOpened, receiveMedia}
+use Rattle.transforms.specs.Rcc.{carriesCounter, integrityTag}
+use Rattle.srtp.specs.Calls.{tooHigh, natural, mediaPortion, mediaPlace, mediaIndex, receiveMediaRows, mediaOpened, receiveMedia}
 use Rattle.srtp.specs.Contexts.{receiverListed}
 use Rattle.srtp.specs.Outcomes.{refused, done, settled, ReceiverShows}
-use Rattle.session.specs.Packets.{mkiBytes, cipheredMedia, mediaTag, tagLength}
+use Rattle.session.specs.Packets.{integrityOf, mkiBytes, cipheredMedia, mediaTag, tagLength}
 use Rattle.srtp.specs.ReceiverSteps.{judgedAs, mediaAs, addressRows, replayRows, mediaAtVerdict, mediaIndexRows, mediaIndexVerdict, mediaVerdict}
 use Rattle.srtp.specs.Refusals.{Row, row, Judgement, passes, stops, judged}
 use Rattle.srtp.specs.declared.Answer.the-variants.{Sent}
@@ -43,13 +44,21 @@ use Rattle.srtp.proofs.ReceiverReturns.{shows-done}
 use Rattle.srtp.proofs.RowLaws.{none-holds}
 use Rattle.session.proofs.SessionLaws.{length-cipheredMedia}
 
+-- ---- the place of a packet: read from its tag, or estimated
+module _ (c : Receiver) (q : ℕ) (t : List ℕ) (b : Bool) (eb : b ≡ carriesCounter (integrityOf (c .session)) q) where
+  pub media-carried : b ≡ true → (r i : ℕ) → r ≡ fromBytes (take 4 t) → i ≡ indexOf r q → i < 2 ^ 48 → estimated.Index i ≡ placed (mediaPlace c q t)
+  media-carried h r i er ei l = rw (← eb, h, ← er, ← ei, le-ltb maxMediaIndex i (omega arith))
+
+  pub media-estimated : b ≡ false → (e : Estimate) → e ≡ placed (estimate (c .rollover) q (c .media .highest)) → e ≡ placed (mediaPlace c q t)
+  media-estimated h e f = rw (← eb, h) f
+
 -- ---- SPENT to FORGED, at the place of a packet
 placed-at : (k : ℤ) {e f : Estimate} → e ≡ placed k → e ≡ f → PlacedAs k f
 placed-at k p q = subst (λ (x : Estimate). PlacedAs k x) (sym p ∙ q) (placed-as k)
 
-module _ (c : Receiver) (n number : ℕ) (a t : List ℕ) {e : Estimate} (k : e ≡ placed (estimate (c .rollover) number (c .media .highest))) where
+module _ (c : Receiver) (n number : ℕ) (a t : List ℕ) {e : Estimate} (k : e ≡ placed (mediaPlace c number t)) where
   abbrev found : ℤ
-  found = estimate (c .rollover) number (c .media .highest)
+  found = mediaPlace c number t
 
   abbrev at : ℤ → MediaVerdict
   at x = mediaAs n (length a) (natural x) (judged (mediaIndexRows c a t x))
@@ -75,7 +84,7 @@ module _ (c : Receiver) (n i : ℕ) (a t : List ℕ) {v : Judged} (e : v ≡ jud
   pub media-replayed : (m : Refusal) → v ≡ Stops m → media.Stops m ≡ mediaAtVerdict c n i a t
   media-replayed m h = sym (ap (mediaAs n (length a) i) (told-stops (replayRows (c .media) i) forged e m h))
 
-  module _ (h : v ≡ Passes) (g : Bool) (eg : g ≡ same t (tag.mediaTag (c .session .settings .profile .«tag_len») (c .session .media) a i)) where
+  module _ (h : v ≡ Passes) (g : Bool) (eg : g ≡ same t (integrityTag (integrityOf (c .session)) (tagLength (c .session)) (c .session .media) a i)) where
     tagged : (b : Bool) → not g ≡ b → mediaAtVerdict c n i a t ≡ mediaAs n (length a) i (cond b (stops Forged) passes)
     unfolding mediaTag
     tagged b f = ap (mediaAs n (length a) i) (told-passes (replayRows (c .media) i) forged e h ∙ last-row Forged eg b f)
@@ -140,8 +149,11 @@ module _ {c : Receiver} {b : List ℕ} {r : SrtpLayout} (p : Media c b r) where
     pub front-short : length (take k b) ≤ 2048
     front-short = omega (arith, front-length (read .trailer), read .trailer .mki, read .trailer .tag, p .short)
 
+    pub tag-long : 4 ≤ tagLen c b → 4 ≤ length (take (length b - j) (drop j b))
+    tag-long l = rw (to-end j b) (omega (arith, length-drop j b, read .trailer .tag))
+
     abbrev place : ℤ
-    place = estimate (c .rollover) q (c .media .highest)
+    place = mediaPlace c q (drop j b)
 
     abbrev address : ℕ → List Row
     address room = addressRows (c .session .settings) s k room (take (j - k) (drop k b))

@@ -17,8 +17,11 @@ use Rattle.replay.specs.declared.window.Verdict.{Verdict}
 use Rattle.replay.specs.declared.window.Verdict.the-variants as verdict
 use Rattle.replay.specs.declared.window.Window.{Window}
 use Rattle.replay.specs.declared.window.Marked.{Marked}
-use Rattle.transforms.proofs.TagLaws.{take-mediaTag, take-controlTag}
-use Rattle.transforms.specs.Tag.{mediaTag, controlTag}
+use Rattle.transforms.proofs.TagLaws.{take-controlTag}
+use Rattle.transforms.proofs.RccLaws.{take-integrityTag}
+use Rattle.transforms.specs.Tag.{controlTag}
+use Rattle.transforms.specs.Rcc.{integrityTag}
+use Rattle.transforms.specs.declared.Integrity.{Integrity}
 use Rattle.transforms.specs.declared.SessionKeys.{SessionKeys}
 use Rattle.srtp.specs.Calls.{isOld, isRepeat}
 use Rattle.srtp.specs.Contexts.{highestAtMost, receiverListed}
@@ -86,8 +89,10 @@ module _ (s : Settings) (ssrc len room : ℕ) (mki : List ℕ) where
 
 -- ---- FORGED: of the tag's twenty bytes w a packet carries the first
 module _ (k : SessionKeys) (a t w : List ℕ) {r : Bool} where
-  pub is-media-tag : (n i : ℕ) → n ≤ 10 → w ≡ mediaTag 20 k a i → r ≡ same t (take n w) → r ≡ same t (mediaTag n k a i)
-  is-media-tag n i h e q = q ∙ ap (λ (l : List ℕ). same t (take n l)) e ∙ ap (same t) (take-mediaTag n k a 20 i (omega arith))
+  pub is-media-tag : (p : Integrity) (n i : ℕ) → 4 ≤ n → n ≤ 14 → w ≡ integrityTag p 20 k a i → r ≡ same t (take n w) →
+      r ≡ same t (integrityTag p n k a i)
+  is-media-tag p n i least most e q =
+      q ∙ ap (λ (l : List ℕ). same t (take n l)) e ∙ ap (same t) (take-integrityTag n k a i least (omega arith) p)
 
   pub is-control-tag : w ≡ controlTag 20 k a → r ≡ same t (take 10 w) → r ≡ same t (controlTag 10 k a)
   is-control-tag e q = q ∙ ap (λ (l : List ℕ). same t (take 10 l)) e ∙ ap (same t) (take-controlTag 10 k a 20 (omega arith))

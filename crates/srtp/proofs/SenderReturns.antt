@@ -70,7 +70,7 @@ module _ (c : Sender) (p d : List ℕ) (v : MediaVerdict) (e : v ≡ mediaVerdic
     pub media-ready : length (c .session .settings .mki) ≡ 4 →
         ((n ≡ headerLength p) × (n ≤ length p))
         × (((i < 2 ^ 48) × (length p ≤ 2048))
-        × (((c .session .settings .«mki_len» ≤ 4) × (c .session .settings .profile .«tag_len» ≤ 10))
+        × (((c .session .settings .«mki_len» ≤ 4) × (4 ≤ c .session .settings .profile .«tag_len») × (c .session .settings .profile .«tag_len» ≤ 14))
         × (length p + c .session .settings .«mki_len» + c .session .settings .profile .«tag_len» ≤ length d)))
     media-ready four =
         let w = none-holds (sendMediaRows c p (length d)) (told .0) in
@@ -80,7 +80,7 @@ module _ (c : Sender) (p d : List ℕ) (v : MediaVerdict) (e : v ≡ mediaVerdic
         let last : next ≤ maxMediaIndex = ltb-false maxMediaIndex next (w .1 .1 .1 .1 .1 .1 .0) in
         let size = mki-length (c .session) (listed .mki) four in (
           (told .1, rw (told .1) fits),
-          ((omega (arith, told .2, last), ltb-false 2048 (length p) (w .1 .0)), ((listed .mki, listed .tag), rw (← size) whole)),
+          ((omega (arith, told .2, last), ltb-false 2048 (length p) (w .1 .0)), ((listed .mki, listed .least, listed .most), rw (← size) whole)),
         )
 
     pub media-shown : (len : ℕ) (d′ : List ℕ)

@@ -47,7 +47,7 @@ receiver-shows : {made r : ReceiverSetUp} → r ≡ made → ReceiverSetUpShows 
 receiver-shows e = record { is = e; shows = ap (λ (r : ReceiverSetUp). setUpShown (r .answer)) e }
 
 -- ---- Sender::set_up, Receiver::set_up: b is whether the lengths are on the list
-module _ (u : SetUp) (b : Bool) (e : b ≡ setUpListed (length (u .masterKey)) (length (u .masterSalt)) (length (u .mki)) (u .tagLength)) where
+module _ (u : SetUp) (b : Bool) (e : b ≡ setUpListed (length (u .masterKey)) (length (u .masterSalt)) (length (u .mki)) (u .profile)) where
   is-listed : b ≡ listed u
   unfolding listed
   is-listed = e

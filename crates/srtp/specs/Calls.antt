@@ -1,7 +1,7 @@
 -- The four calls on a packet, each a total definition: context, bytes to read and length of the buffer in, outcome out. The rows of each
 -- stand in the order of the table of refusals, without those that do not concern it. Assumes nothing.
 use Prim.Native.Nat.{ℕ, _+_}
-use mathlib.Core.Bool.{Bool, true, false, not}
+use mathlib.Core.Bool.{Bool, true, false, cond, not}
 use mathlib.Core.List.{List, [], _∷_}
 use lib.Dec.{eqb, leb, ltb}
 use lib.IntN.{ℤ, pos, negsuc}
@@ -10,7 +10,8 @@ use Rattle.octets.specs.Equal.{same}
 use Rattle.rtp.specs.Rtp.{isRtp, sequenceNumber, rtpSsrc}
 use Rattle.rtp.specs.Rtcp.{isRtcp, rtcpSsrc}
 use Rattle.rtp.specs.Protected.{authenticatedPortion, mkiOf, tagOf, rtcpPortion, wordOf, eFlag, srtcpIndex}
-use Rattle.replay.specs.Index.{maxMediaIndex, maxControlPackets, estimate, nextIndex, outOfOrder, mediaAfter, controlAfter}
+use Rattle.transforms.specs.Rcc.{carriesCounter, carriedCounter}
+use Rattle.replay.specs.Index.{maxMediaIndex, maxControlPackets, indexOf, estimate, nextIndex, outOfOrder, mediaAfter, controlAfter}
 use Rattle.replay.specs.Window.{windowLength, windowVerdict, windowMark}
 use Rattle.replay.specs.declared.window.Window.{Window}
 use Rattle.replay.specs.declared.window.Verdict.{Verdict}
@@ -21,7 +22,7 @@ use Rattle.srtp.specs.declared.Sender.{Sender}
 use Rattle.srtp.specs.declared.Receiver.{Receiver}
 use Rattle.srtp.specs.Refusals.{Row, row, judged}
 use Rattle.srtp.specs.Outcomes.{Outcome, done, settled}
-use Rattle.session.specs.Packets.{controlTagLength, cipherOf, ssrcOf, tagLength, mkiBytes, cipheredMedia, mediaTag, srtp, encrypts, cipheredControl, controlTag, srtcp}
+use Rattle.session.specs.Packets.{controlTagLength, cipherOf, integrityOf, ssrcOf, tagLength, mkiBytes, cipheredMedia, mediaTag, srtp, encrypts, cipheredControl, controlTag, srtcp}
 use Rattle.srtp.specs.Contexts.{senderListed, receiverListed}
 
 -- a plain packet has at most so many bytes
@@ -91,12 +92,19 @@ natural (pos i) = i
 natural (negsuc j) = 0
 
 -- ---- receiving media
--- header and enciphered payload of a protected packet, and its index
+-- header and enciphered payload of a protected packet
 abbrev pub mediaPortion : Session → List ℕ → List ℕ
 mediaPortion s b = authenticatedPortion (length (mkiBytes s)) (tagLength s) b
 
+-- its index: where the tag carries the rollover counter (RFC 4771, 2) it is read from tag and number; else it is estimated
+abbrev pub mediaPlace : Receiver → (number : ℕ) → (tag : List ℕ) → ℤ
+mediaPlace c q t =
+    cond (carriesCounter (integrityOf (c .session)) q) (pos (indexOf (carriedCounter t) q)) (estimate (c .rollover) q (c .media .highest))
+
 abbrev pub mediaIndex : Receiver → List ℕ → ℤ
-mediaIndex c b = estimate (c .rollover) (sequenceNumber (mediaPortion (c .session) b)) (c .media .highest)
+mediaIndex c b =
+    let s = c .session in
+    mediaPlace c (sequenceNumber (mediaPortion s b)) (tagOf (tagLength s) b)
 
 abbrev pub receiveMediaRows : Receiver → (packet : List ℕ) → (room : ℕ) → (index : ℤ) → List Row
 receiveMediaRows c b room index =

@@ -7,12 +7,11 @@ use lib.Dec.{eqb, ltb}
 use lib.IntN.{ℤ}
 use lib.ListN.{length, take}
 use Rattle.octets.specs.Equal.{same}
-use Rattle.replay.specs.Index.{estimate}
 use Rattle.replay.specs.Window.{windowLength, windowVerdict}
 use Rattle.replay.specs.declared.window.Window.{Window}
 use Rattle.rtp.specs.Protected.{rtcpPortion, wordOf, eFlag}
 use Rattle.rtp.specs.Rtp.{headerLength}
-use Rattle.srtp.specs.Calls.{tooHigh, isOld, isRepeat, old, natural, mediaPortion, mediaIndex, receiveMediaRows, controlReceived, controlIndex, receiveControlRows}
+use Rattle.srtp.specs.Calls.{tooHigh, isOld, isRepeat, old, natural, mediaPortion, mediaPlace, mediaIndex, receiveMediaRows, controlReceived, controlIndex, receiveControlRows}
 use Rattle.session.specs.Packets.{mediaTag, controlTag}
 use Rattle.srtp.specs.Refusals.{Row, row, Judgement, passes, stops, judged}
 use Rattle.srtp.specs.declared.Receiver.{Receiver}
@@ -77,7 +76,7 @@ controlAtVerdict c len e i a t = controlAs len e i (judged (controlAtRows c a t 
 
 abbrev pub mediaIndexVerdict : Receiver → (headerLen number : ℕ) → (a t : List ℕ) → MediaVerdict
 mediaIndexVerdict c headerLen number a t =
-    let i = estimate (c .rollover) number (c .media .highest) in
+    let i = mediaPlace c number t in
     mediaAs headerLen (length a) (natural i) (judged (mediaIndexRows c a t i))
 
 -- ---- all rows of a call; where none holds, what opening it needs to know

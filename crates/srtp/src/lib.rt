@@ -1,5 +1,5 @@
-// SRTP and SRTCP (RFC 3711) for one stream: contexts that go into a call by value and come back with their next state, and the calls
-// that protect and open media and control packets.
+// SRTP and SRTCP (RFC 3711, with RFC 4771's integrity transform) for one stream: contexts that go into a call by value and come back with
+// their next state, and the calls that protect and open media and control packets.
 mod receiving;
 mod sending;
 mod setup;

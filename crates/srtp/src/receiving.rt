@@ -3,10 +3,12 @@ ghost use mathlib.Core.Path.{_≡_};
 ghost use Prim.Native.Nat.{_≤_, _<_, _^_};
 ghost use lib.ListN.{length};
 ghost use Rattle.octets.specs.Equal.{same};
-ghost use Rattle.transforms.specs.Tag.{mediaTag, controlTag};
+ghost use Rattle.transforms.specs.Tag.{controlTag};
+ghost use Rattle.transforms.specs.Rcc.{integrityTag};
+ghost use Rattle.replay.specs.Index.{placed};
 ghost use Rattle.srtp.specs.Refusals.{judged};
 ghost use Rattle.srtp.specs.Contexts.{highestAtMost, receiverListed};
-ghost use Rattle.srtp.specs.Calls.{receiveMedia, receiveControl};
+ghost use Rattle.srtp.specs.Calls.{mediaPlace, receiveMedia, receiveControl};
 ghost use Rattle.srtp.specs.Outcomes.{ReceiverShows};
 ghost use Rattle.srtp.specs.ReceiverSteps.{judgedAs, addressRows, replayRows, mediaAtVerdict, controlAtVerdict, mediaIndexVerdict, mediaVerdict, controlVerdict};
 use crate::Answer;
@@ -76,12 +78,20 @@ fn judge_replay(window: Window, index: u64) -> Judged
     }
 }
 
-// Whether `tag` is the media tag of `n` bytes at this index.
-fn is_media_tag(keys: SessionKeys, n: usize, index: u64, authenticated: &[u8], tag: &[u8]) -> bool
-    requires { ⌜ (n ≤ 10) × (index < 2 ^ 48) × (length (now authenticated) ≤ 2048) ⌝ }
-    ensures { λ r. ⌜ r ≡ same (now (tag .entry)) (mediaTag n keys (now (authenticated .entry)) index) ⌝ }
+// Whether `tag` is the media tag of this profile at this index.
+fn is_media_tag(
+    profile: Profile,
+    keys: SessionKeys,
+    index: u64,
+    authenticated: &[u8],
+    tag: &[u8],
+) -> bool
+    requires { ⌜ (4 ≤ profile .«tag_len») × (profile .«tag_len» ≤ 14) × (index < 2 ^ 48) × (length (now authenticated) ≤ 2048) ⌝ }
+    ensures { λ r. ⌜ r ≡ same (now (tag .entry)) (integrityTag (profile .integrity) (profile .«tag_len») keys (now (authenticated .entry)) index) ⌝ }
 {
-    let whole = transforms::media_tag(keys, authenticated, index);
+    let integrity = profile.integrity;
+    let whole = transforms::media_tag(integrity, keys, authenticated, index);
+    let n = profile.tag_len;
     octets::same(tag, &whole[..n])
 }
 
@@ -166,6 +176,24 @@ impl Receiver {
         self.judge_media_index(header_len, sequence_number, &packet[..mki], &packet[tag..])
     }
 
+    // The index of a media packet with this number and tag: read where the tag carries the rollover counter (RFC 4771, 2), else estimated.
+    fn media_index(self, number: u16, tag: &[u8]) -> Estimate
+        requires { ⌜ 4 ≤ length (now tag) ⌝ }
+        ensures { λ r. ⌜ r ≡ placed (mediaPlace self number (now (tag .entry))) ⌝ }
+    {
+        let session = self.session;
+        let settings = session.settings;
+        let profile = settings.profile;
+        let integrity = profile.integrity;
+        if integrity.carries(number) {
+            let counter = octets::load32(tag, 0);
+            return Estimate::Index(replay::index::index_of(counter, number));
+        }
+        let window = self.media;
+        let highest = window.highest;
+        highest.estimate(self.rollover, number)
+    }
+
     // SPENT to FORGED of a media packet with this number. `authenticated` is what stands before the MKI.
     fn judge_media_index(
         self,
@@ -174,13 +202,12 @@ impl Receiver {
         authenticated: &[u8],
         tag: &[u8],
     ) -> MediaVerdict
-        requires { ⌜ (length (now authenticated) ≤ 2048) × (self .session .settings .profile .«tag_len» ≤ 10) ⌝ }
+        requires { ⌜ (length (now authenticated) ≤ 2048) × (4 ≤ length (now tag)) ⌝ }
+        requires { ⌜ (4 ≤ self .session .settings .profile .«tag_len») × (self .session .settings .profile .«tag_len» ≤ 14) ⌝ }
         ensures { λ r. ⌜ r ≡ mediaIndexVerdict self «header_len» number (now (authenticated .entry)) (now (tag .entry)) ⌝ }
     {
-        let window = self.media;
-        let highest = window.highest;
-        let estimate = highest.estimate(self.rollover, number);
-        match estimate {
+        let found = self.media_index(number, tag);
+        match found {
             Estimate::Spent => MediaVerdict::Stops(Refusal::Spent),
             Estimate::Old => MediaVerdict::Stops(Refusal::Old),
             Estimate::Index(index) => self.judge_media_at(header_len, index, authenticated, tag),
@@ -195,7 +222,8 @@ impl Receiver {
         authenticated: &[u8],
         tag: &[u8],
     ) -> MediaVerdict
-        requires { ⌜ (index < 2 ^ 48) × (length (now authenticated) ≤ 2048) × (self .session .settings .profile .«tag_len» ≤ 10) ⌝ }
+        requires { ⌜ (index < 2 ^ 48) × (length (now authenticated) ≤ 2048) ⌝ }
+        requires { ⌜ (4 ≤ self .session .settings .profile .«tag_len») × (self .session .settings .profile .«tag_len» ≤ 14) ⌝ }
         ensures { λ r. ⌜ r ≡ mediaAtVerdict self «header_len» index (now (authenticated .entry)) (now (tag .entry)) ⌝ }
     {
         let replayed = judge_replay(self.media, index);
@@ -204,8 +232,9 @@ impl Receiver {
         }
         let session = self.session;
         let keys = session.media;
-        let tag_len = session.settings.profile.tag_len;
-        if !is_media_tag(keys, tag_len, index, authenticated, tag) {
+        let settings = session.settings;
+        let profile = settings.profile;
+        if !is_media_tag(profile, keys, index, authenticated, tag) {
             return MediaVerdict::Stops(Refusal::Forged);
         }
         let len = authenticated.len();

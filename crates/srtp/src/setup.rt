@@ -14,8 +14,8 @@ use replay::index::ControlSender;
 use replay::index::Highest;
 use replay::index::MediaSender;
 use replay::window::Window;
+use session::Profile;
 use session::Session;
-use transforms::Cipher;
 
 // ---- closed
 
@@ -51,17 +51,10 @@ impl Receiver {
 impl Sender {
     // A sender under this master key and master salt, with rollover counter 0 and nothing sent. Values off the list are refused.
     // No two senders may be set up with one master key, master salt and SSRC, nor an old context be used again: both repeat keystream.
-    pub fn set_up(
-        ssrc: u32,
-        key: &[u8],
-        salt: &[u8],
-        mki: &[u8],
-        tag_len: usize,
-        cipher: Cipher,
-    ) -> SenderSetUp
-        ensures { λ r. ⌜ SenderSetUpShows (setUpSender (record { ssrc = ssrc; masterKey = now (key .entry); masterSalt = now (salt .entry); mki = now (mki .entry); tagLength = «tag_len»; cipher = cipher })) r ⌝ }
+    pub fn set_up(ssrc: u32, key: &[u8], salt: &[u8], mki: &[u8], profile: Profile) -> SenderSetUp
+        ensures { λ r. ⌜ SenderSetUpShows (setUpSender (record { ssrc = ssrc; masterKey = now (key .entry); masterSalt = now (salt .entry); mki = now (mki .entry); profile = profile })) r ⌝ }
     {
-        if !Session::set_up_listed(key.len(), salt.len(), mki.len(), tag_len) {
+        if !Session::set_up_listed(key.len(), salt.len(), mki.len(), profile) {
             return SenderSetUp {
                 answer: SetUpAnswer::Refused(Refusal::Setup),
                 context: Sender::closed(),
@@ -70,7 +63,7 @@ impl Sender {
         SenderSetUp {
             answer: SetUpAnswer::Ready,
             context: Sender {
-                session: Session::derived(ssrc, key, salt, mki, tag_len, cipher),
+                session: Session::derived(ssrc, key, salt, mki, profile),
                 media: MediaSender::new(),
                 control: ControlSender::new(),
             },
@@ -96,14 +89,13 @@ impl Receiver {
         key: &[u8],
         salt: &[u8],
         mki: &[u8],
-        tag_len: usize,
-        cipher: Cipher,
+        profile: Profile,
         rollover: u32,
         number: LastNumber,
     ) -> ReceiverSetUp
-        ensures { λ r. ⌜ ReceiverSetUpShows (setUpReceiver (record { ssrc = ssrc; masterKey = now (key .entry); masterSalt = now (salt .entry); mki = now (mki .entry); tagLength = «tag_len»; cipher = cipher }) rollover number) r ⌝ }
+        ensures { λ r. ⌜ ReceiverSetUpShows (setUpReceiver (record { ssrc = ssrc; masterKey = now (key .entry); masterSalt = now (salt .entry); mki = now (mki .entry); profile = profile }) rollover number) r ⌝ }
     {
-        if !Session::set_up_listed(key.len(), salt.len(), mki.len(), tag_len) {
+        if !Session::set_up_listed(key.len(), salt.len(), mki.len(), profile) {
             return ReceiverSetUp {
                 answer: SetUpAnswer::Refused(Refusal::Setup),
                 context: Receiver::closed(),
@@ -112,7 +104,7 @@ impl Receiver {
         ReceiverSetUp {
             answer: SetUpAnswer::Ready,
             context: Receiver {
-                session: Session::derived(ssrc, key, salt, mki, tag_len, cipher),
+                session: Session::derived(ssrc, key, salt, mki, profile),
                 rollover,
                 media: Window::starting(start_highest(rollover, number)),
                 control: Window::empty(),

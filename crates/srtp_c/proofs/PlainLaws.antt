@@ -11,6 +11,9 @@ use Rattle.replay.specs.declared.index.Highest.{Highest}
 use Rattle.replay.specs.declared.index.Highest.the-variants as highest
 use Rattle.transforms.specs.declared.Cipher.{Cipher}
 use Rattle.transforms.specs.declared.Cipher.the-variants.{Aes, Null}
+use Rattle.transforms.specs.declared.Integrity.{Integrity}
+use Rattle.transforms.specs.declared.Integrity.the-variants.{HmacSha1, Rccm2}
+use Rattle.session.specs.declared.Profile as core-profile
 use Rattle.srtp.specs.declared.Sender.{Sender}
 use Rattle.srtp.specs.declared.Receiver.{Receiver}
 use Rattle.srtp.specs.declared.Refusal.the-variants.{Setup}
@@ -19,11 +22,13 @@ use Rattle.srtp.specs.Outcomes.{refused}
 use Rattle.srtp.specs.Calls.{sendMedia, sendControl, receiveMedia, receiveControl}
 use Rattle.srtp_c.specs.declared.HashState.{HashState}
 use Rattle.srtp_c.specs.declared.Keys.{Keys}
+use Rattle.srtp_c.specs.declared.Profile.{Profile}
 use Rattle.srtp_c.specs.declared.Session.{Session}
 use Rattle.srtp_c.specs.declared.Window.{Window}
 use Rattle.srtp_c.specs.declared.Sender as plain-sender
 use Rattle.srtp_c.specs.declared.Receiver as plain-receiver
-use Rattle.srtp_c.specs.Plain.{twoCased, cipherOf, cipherNumber, lastOf, hasLast, lastIndex, highestOf, hasHighest, highestIndex}
+use Rattle.srtp_c.specs.Plain.{twoCased, cipherOf, cipherNumber, integrityOf, integrityNumber, integrityRate}
+use Rattle.srtp_c.specs.Plain.{lastOf, hasLast, lastIndex, highestOf, hasHighest, highestIndex, profileNamed, profileOf, plainProfile}
 use Rattle.srtp_c.specs.Plain.{senderNamed, senderOf, plainSender, receiverNamed, receiverOf, plainReceiver}
 
 -- ---- enums
@@ -34,6 +39,14 @@ cipher-named Null = refl
 cipher-back : (x : Cipher) → cipherOf (cipherNumber x) ≡ x
 cipher-back Aes = refl
 cipher-back Null = refl
+
+integrity-named : (t : Integrity) → twoCased (integrityNumber t) ≡ true
+integrity-named HmacSha1 = refl
+integrity-named (Rccm2 rate) = refl
+
+integrity-back : (t : Integrity) → integrityOf (integrityNumber t) (integrityRate t) ≡ t
+integrity-back HmacSha1 = refl
+integrity-back (Rccm2 rate) = refl
 
 last-named : (l : LastSent) → twoCased (hasLast l) ≡ true
 last-named last.Nothing = refl
@@ -51,21 +64,28 @@ highest-back : (h : Highest) → highestOf (hasHighest h) (highestIndex h) ≡ h
 highest-back highest.Absent = refl
 highest-back (highest.At i) = refl
 
+-- ---- profiles
+profile-named : (p : core-profile.Profile) → profileNamed (plainProfile p) ≡ true
+profile-named p = rw (cipher-named (p .cipher), integrity-named (p .integrity))
+
+profile-back : (p : core-profile.Profile) → profileOf (plainProfile p) ≡ p
+profile-back p = rw (cipher-back (p .cipher), integrity-back (p .integrity))
+
 -- ---- contexts
 pub sender-back : (c : Sender) → senderOf (plainSender c) ≡ c
 unfolding senderOf plainSender
 sender-back c =
-    let x = c .session .settings .profile .cipher in
+    let p = c .session .settings .profile in
     let l = c .media .last in
-    rw (cipher-named x, last-named l, cipher-back x, last-back l)
+    rw (profile-named p, last-named l, profile-back p, last-back l)
 
 pub receiver-back : (c : Receiver) → receiverOf (plainReceiver c) ≡ c
 unfolding receiverOf plainReceiver
 receiver-back c =
-    let x = c .session .settings .profile .cipher in
+    let p = c .session .settings .profile in
     let m = c .media .highest in
     let n = c .control .highest in
-    rw (cipher-named x, highest-named m, highest-named n, cipher-back x, highest-back m, highest-back n)
+    rw (profile-named p, highest-named m, highest-named n, profile-back p, highest-back m, highest-back n)
 
 -- ---- a number that no enum has: every call is refused as SETUP
 module _ (packet : List ℕ) (room : ℕ) where
@@ -102,8 +122,11 @@ zeroState = record { a = 0; b = 0; c = 0; d = 0; e = 0 }
 abbrev zeroKeys : Keys
 zeroKeys = record { round = replicate 44 0; inner = zeroState; outer = zeroState; salt = replicate 14 0 }
 
+abbrev zeroProfile : Profile
+zeroProfile = record { cipher = 0; integrity = 0; rate = 0; «tag_len» = 0 }
+
 abbrev zeroSession : Session
-zeroSession = record { cipher = 0; ssrc = 0; «tag_len» = 0; «mki_len» = 0; mki = replicate 4 0; media = zeroKeys; control = zeroKeys }
+zeroSession = record { profile = zeroProfile; ssrc = 0; mki = replicate 4 0; «mki_len» = 0; media = zeroKeys; control = zeroKeys }
 
 abbrev zeroWindow : Window
 zeroWindow = record { «has_highest» = 0; highest = 0; bits = 0 }

@@ -10,12 +10,15 @@ use Rattle.replay.specs.declared.index.LastSent.{LastSent}
 use Rattle.replay.specs.declared.index.Highest.{Highest}
 use Rattle.replay.specs.declared.window.Window as core-window
 use Rattle.transforms.specs.declared.Cipher.{Cipher}
+use Rattle.transforms.specs.declared.Integrity.{Integrity}
 use Rattle.transforms.specs.declared.SessionKeys.{SessionKeys}
 use Rattle.srtp.specs.declared.Answer as core-answer
 use Rattle.srtp.specs.declared.Answer.the-variants.{Sent, Refused}
 use Rattle.srtp.specs.declared.LastNumber.{LastNumber}
 use Rattle.srtp.specs.declared.Refusal.{Refusal}
 use Rattle.srtp.specs.declared.Refusal.the-variants.{Setup}
+use Rattle.session.specs.SetUps.{SetUp}
+use Rattle.session.specs.declared.Profile as core-profile
 use Rattle.session.specs.declared.Session as core-session
 use Rattle.srtp.specs.declared.Sender as core-sender
 use Rattle.srtp.specs.declared.Receiver as core-receiver
@@ -27,11 +30,13 @@ use Rattle.srtp.specs.Refusals.{numberOf}
 use Rattle.srtp_c.specs.declared.Answer.{Answer}
 use Rattle.srtp_c.specs.declared.HashState.{HashState}
 use Rattle.srtp_c.specs.declared.Keys.{Keys}
+use Rattle.srtp_c.specs.declared.Profile.{Profile}
 use Rattle.srtp_c.specs.declared.Session.{Session}
 use Rattle.srtp_c.specs.declared.Sender.{Sender}
 use Rattle.srtp_c.specs.declared.Window.{Window}
 use Rattle.srtp_c.specs.declared.Receiver.{Receiver}
-use Rattle.srtp_c.specs.Plain.{twoCased, stateOf, plainState, keysOf, plainKeys, cipherOf, cipherNumber, sessionOf, plainSession}
+use Rattle.srtp_c.specs.Plain.{twoCased, cipherOf, cipherNumber, integrityOf, integrityNumber, integrityRate}
+use Rattle.srtp_c.specs.Plain.{profileNamed, profileOf, plainProfile, stateOf, plainState, keysOf, plainKeys, sessionOf, plainSession}
 use Rattle.srtp_c.specs.Plain.{lastOf, hasLast, lastIndex, senderNamed, senderOf, plainSender}
 use Rattle.srtp_c.specs.Plain.{highestOf, hasHighest, highestIndex, windowOf, plainWindow, receiverNamed, receiverOf, plainReceiver}
 use Rattle.srtp_c.specs.Boundary.{plainAnswer, plainNext, Shows, nextFor, Turned}
@@ -52,7 +57,16 @@ module _ (x y z : Bool) (e : x ≡ y) where
   pub and-yes : not x ≡ false → (w : Bool) → w ≡ z → w ≡ (y && z)
   and-yes h w f = rw (← e, not-false x h) f
 
--- ---- keys and sessions
+-- ---- profiles, keys and sessions
+pub profile-of : (p : Profile) (x : Cipher) (i : Integrity) → x ≡ cipherOf (p .cipher) → i ≡ integrityOf (p .integrity) (p .rate)
+    → record { cipher = x; integrity = i; «tag_len» = p .«tag_len» } ≡ profileOf p
+profile-of p x i e f = rw (e, f)
+
+pub plain-profile : (p : core-profile.Profile) (x i r : ℕ)
+    → x ≡ cipherNumber (p .cipher) → i ≡ integrityNumber (p .integrity) → r ≡ integrityRate (p .integrity)
+    → record { cipher = x; integrity = i; rate = r; «tag_len» = p .«tag_len» } ≡ plainProfile p
+plain-profile p x i r e f g = rw (e, f, g)
+
 pub keys-of : (k : Keys) (i o : State) → i ≡ stateOf (k .inner) → o ≡ stateOf (k .outer)
     → record { round = k .round; tag = record { inner = i; outer = o }; salt = k .salt } ≡ keysOf k
 keys-of k i o e f = rw (e, f)
@@ -61,28 +75,23 @@ pub plain-keys : (k : SessionKeys) (i o : HashState) → i ≡ plainState (k .ta
     → record { round = k .round; inner = i; outer = o; salt = k .salt } ≡ plainKeys k
 plain-keys k i o e f = rw (e, f)
 
-pub session-of : (s : Session) (x : Cipher) (m c : SessionKeys) → x ≡ cipherOf (s .cipher) → m ≡ keysOf (s .media) → c ≡ keysOf (s .control)
-    → record {
-      settings = record { profile = record { cipher = x; «tag_len» = s .«tag_len» }; ssrc = s .ssrc; mki = s .mki; «mki_len» = s .«mki_len» };
-      media = m;
-      control = c;
-    }
-    ≡ sessionOf s
-session-of s x m c e f g = rw (e, f, g)
+pub session-of : (s : Session) (p : core-profile.Profile) (m c : SessionKeys)
+    → p ≡ profileOf (s .profile) → m ≡ keysOf (s .media) → c ≡ keysOf (s .control)
+    → record { settings = record { profile = p; ssrc = s .ssrc; mki = s .mki; «mki_len» = s .«mki_len» }; media = m; control = c } ≡ sessionOf s
+session-of s p m c e f g = rw (e, f, g)
 
-pub plain-session : (s : core-session.Session) (x : ℕ) (m c : Keys)
-    → x ≡ cipherNumber (s .settings .profile .cipher) → m ≡ plainKeys (s .media) → c ≡ plainKeys (s .control)
+pub plain-session : (s : core-session.Session) (p : Profile) (m c : Keys)
+    → p ≡ plainProfile (s .settings .profile) → m ≡ plainKeys (s .media) → c ≡ plainKeys (s .control)
     → record {
-      cipher = x;
+      profile = p;
       ssrc = s .settings .ssrc;
-      «tag_len» = s .settings .profile .«tag_len»;
-      «mki_len» = s .settings .«mki_len»;
       mki = s .settings .mki;
+      «mki_len» = s .settings .«mki_len»;
       media = m;
       control = c;
     }
     ≡ plainSession s
-plain-session s x m c e f g = rw (e, f, g)
+plain-session s p m c e f g = rw (e, f, g)
 
 -- ---- senders
 module _ (c : Sender) (b : Bool) (e : b ≡ senderNamed c) where
@@ -160,38 +169,35 @@ module _ {S P : Type 0} (plain : S → P) where
       })
 
 -- ---- set-up
-module _ (ssrc : ℕ) (key salt mki : List ℕ) (t x : ℕ) (b : Bool) where
-  module _ (e : b ≡ twoCased x) where
+module _ (ssrc : ℕ) (key salt mki : List ℕ) (p : Profile) (b : Bool) where
+  abbrev given : core-profile.Profile → SetUp
+  given q = record { ssrc = ssrc; masterKey = key; masterSalt = salt; mki = mki; profile = q }
+
+  module _ (e : b ≡ profileNamed p) where
     pub sender-unnamed : not b ≡ true → (n : ℕ) (s : Sender) → n ≡ numberOf Setup → s ≡ plainSender closedSender
-        → record { number = n; context = s } ≡ plainSetUpSender ssrc key salt mki t x
+        → record { number = n; context = s } ≡ plainSetUpSender ssrc key salt mki p
     unfolding plainSetUpSender
     sender-unnamed h n s f g = rw (← e, not-true b h, f, g)
 
-    pub sender-set-up : not b ≡ false → (k : Cipher) → k ≡ cipherOf x → (m : core-sender-set-up.SenderSetUp)
-        → m ≡ setUpSender (record { ssrc = ssrc; masterKey = key; masterSalt = salt; mki = mki; tagLength = t; cipher = k })
+    pub sender-set-up : not b ≡ false → (q : core-profile.Profile) → q ≡ profileOf p → (m : core-sender-set-up.SenderSetUp) → m ≡ setUpSender (given q)
         → (n : ℕ) (s : Sender) → n ≡ setUpNumber (m .answer) → s ≡ plainSender (m .context)
-        → record { number = n; context = s } ≡ plainSetUpSender ssrc key salt mki t x
+        → record { number = n; context = s } ≡ plainSetUpSender ssrc key salt mki p
     unfolding plainSetUpSender
-    sender-set-up h k ek m em n s f g =
-        rw (← e, not-false b h, f, g)
-        (ap senderMade
-        (em ∙ ap (λ (z : Cipher). setUpSender (record { ssrc = ssrc; masterKey = key; masterSalt = salt; mki = mki; tagLength = t; cipher = z })) ek))
+    sender-set-up h q eq m em n s f g =
+        rw (← e, not-false b h, f, g) (ap senderMade (em ∙ ap (λ (z : core-profile.Profile). setUpSender (given z)) eq))
 
-  module _ (rollover known number : ℕ) (e : b ≡ (twoCased x && twoCased known)) where
+  module _ (rollover known number : ℕ) (e : b ≡ (profileNamed p && twoCased known)) where
     pub receiver-unnamed : not b ≡ true → (n : ℕ) (s : Receiver) → n ≡ numberOf Setup → s ≡ plainReceiver closedReceiver
-        → record { number = n; context = s } ≡ plainSetUpReceiver ssrc key salt mki t x rollover known number
+        → record { number = n; context = s } ≡ plainSetUpReceiver ssrc key salt mki p rollover known number
     unfolding plainSetUpReceiver
     receiver-unnamed h n s f g = rw (← e, not-true b h, f, g)
 
-    pub receiver-set-up : not b ≡ false → (k : Cipher) → k ≡ cipherOf x → (l : LastNumber) → l ≡ numberGiven known number
-        → (m : core-receiver-set-up.ReceiverSetUp)
-        → m ≡ setUpReceiver (record { ssrc = ssrc; masterKey = key; masterSalt = salt; mki = mki; tagLength = t; cipher = k }) rollover l
+    pub receiver-set-up : not b ≡ false → (q : core-profile.Profile) → q ≡ profileOf p → (l : LastNumber) → l ≡ numberGiven known number
+        → (m : core-receiver-set-up.ReceiverSetUp) → m ≡ setUpReceiver (given q) rollover l
         → (n : ℕ) (s : Receiver) → n ≡ setUpNumber (m .answer) → s ≡ plainReceiver (m .context)
-        → record { number = n; context = s } ≡ plainSetUpReceiver ssrc key salt mki t x rollover known number
+        → record { number = n; context = s } ≡ plainSetUpReceiver ssrc key salt mki p rollover known number
     unfolding plainSetUpReceiver
-    receiver-set-up h k ek l el m em n s f g =
+    receiver-set-up h q eq l el m em n s f g =
         rw (← e, not-false b h, f, g)
         (ap receiverMade
-        (em
-        ∙ ap (λ (z : Cipher). setUpReceiver (record { ssrc = ssrc; masterKey = key; masterSalt = salt; mki = mki; tagLength = t; cipher = z }) rollover l) ek
-        ∙ ap (setUpReceiver (record { ssrc = ssrc; masterKey = key; masterSalt = salt; mki = mki; tagLength = t; cipher = cipherOf x }) rollover) el))
+        (em ∙ ap (λ (z : core-profile.Profile). setUpReceiver (given z) rollover l) eq ∙ ap (setUpReceiver (given (profileOf p)) rollover) el))

@@ -19,13 +19,14 @@ use Rattle.srtp.specs.Contexts.{closedSender, closedReceiver, setUpSender, setU
 use Rattle.srtp.specs.Outcomes.{Outcome, refused, done, answerOf, bufferOf, shown, setUpShown}
 use Rattle.srtp.specs.Calls.{sendMedia, sendControl, receiveMedia, receiveControl}
 use Rattle.srtp_c.specs.declared.Answer.{Answer}
+use Rattle.srtp_c.specs.declared.Profile.{Profile}
 use Rattle.srtp_c.specs.declared.Sender.{Sender}
 use Rattle.srtp_c.specs.declared.Receiver.{Receiver}
 use Rattle.srtp_c.specs.declared.SenderAfter.{SenderAfter}
 use Rattle.srtp_c.specs.declared.ReceiverAfter.{ReceiverAfter}
 use Rattle.srtp_c.specs.declared.SenderSetUp.{SenderSetUp}
 use Rattle.srtp_c.specs.declared.ReceiverSetUp.{ReceiverSetUp}
-use Rattle.srtp_c.specs.Plain.{twoCased, cipherOf, senderOf, plainSender, receiverOf, plainReceiver}
+use Rattle.srtp_c.specs.Plain.{twoCased, profileNamed, profileOf, senderOf, plainSender, receiverOf, plainReceiver}
 
 -- ---- calls
 -- an answer in numbers: those of the table of refusals
@@ -62,7 +63,7 @@ senderAfter a c = record { answer = a; next = c }
 abbrev pub receiverAfter : Answer → Receiver → ReceiverAfter
 receiverAfter a c = record { answer = a; next = c }
 
--- ---- set-up: a cipher, or a mark for a known last number, that is not 0 or 1 is refused as SETUP
+-- ---- set-up: a cipher, an integrity transform, or a mark for a known last number, that is not 0 or 1 is refused as SETUP
 abbrev pub setUpNumber : SetUpAnswer → ℕ
 setUpNumber a = setUpShown a .number
 
@@ -75,10 +76,10 @@ senderMade m = record { number = setUpNumber (m .answer); context = plainSender 
 abbrev pub senderRefused : SenderSetUp
 senderRefused = record { number = numberOf Setup; context = plainSender closedSender }
 
-unfoldable pub plainSetUpSender : (ssrc : ℕ) → (key salt mki : List ℕ) → (tagLength cipher : ℕ) → SenderSetUp
-plainSetUpSender ssrc key salt mki n cipher =
-    cond (twoCased cipher)
-    (senderMade (setUpSender (record { ssrc = ssrc; masterKey = key; masterSalt = salt; mki = mki; tagLength = n; cipher = cipherOf cipher })))
+unfoldable pub plainSetUpSender : (ssrc : ℕ) → (key salt mki : List ℕ) → Profile → SenderSetUp
+plainSetUpSender ssrc key salt mki p =
+    cond (profileNamed p)
+    (senderMade (setUpSender (record { ssrc = ssrc; masterKey = key; masterSalt = salt; mki = mki; profile = profileOf p })))
     senderRefused
 
 abbrev pub receiverMade : core-receiver-set-up.ReceiverSetUp → ReceiverSetUp
@@ -87,11 +88,11 @@ receiverMade m = record { number = setUpNumber (m .answer); context = plainRecei
 abbrev pub receiverRefused : ReceiverSetUp
 receiverRefused = record { number = numberOf Setup; context = plainReceiver closedReceiver }
 
-unfoldable pub plainSetUpReceiver : (ssrc : ℕ) → (key salt mki : List ℕ) → (tagLength cipher rollover known number : ℕ) → ReceiverSetUp
-plainSetUpReceiver ssrc key salt mki n cipher rollover known number =
-    cond (twoCased cipher && twoCased known)
+unfoldable pub plainSetUpReceiver : (ssrc : ℕ) → (key salt mki : List ℕ) → Profile → (rollover known number : ℕ) → ReceiverSetUp
+plainSetUpReceiver ssrc key salt mki p rollover known number =
+    cond (profileNamed p && twoCased known)
     (receiverMade
-    (setUpReceiver (record { ssrc = ssrc; masterKey = key; masterSalt = salt; mki = mki; tagLength = n; cipher = cipherOf cipher }) rollover (numberGiven known number)))
+    (setUpReceiver (record { ssrc = ssrc; masterKey = key; masterSalt = salt; mki = mki; profile = profileOf p }) rollover (numberGiven known number)))
     receiverRefused
 
 -- ---- the step behind the calls: what the boundary makes of an answer y and a next context s of `srtp`

@@ -12,12 +12,16 @@ use Rattle.replay.specs.declared.window.Window as core-window
 use Rattle.transforms.specs.declared.SessionKeys.{SessionKeys}
 use Rattle.transforms.specs.declared.Cipher.{Cipher}
 use Rattle.transforms.specs.declared.Cipher.the-variants.{Aes, Null}
+use Rattle.transforms.specs.declared.Integrity.{Integrity}
+use Rattle.transforms.specs.declared.Integrity.the-variants.{HmacSha1, Rccm2}
+use Rattle.session.specs.declared.Profile as core-profile
 use Rattle.session.specs.declared.Session as core-session
 use Rattle.srtp.specs.declared.Sender as core-sender
 use Rattle.srtp.specs.declared.Receiver as core-receiver
 use Rattle.srtp.specs.Contexts.{closedSender, closedReceiver}
 use Rattle.srtp_c.specs.declared.HashState.{HashState}
 use Rattle.srtp_c.specs.declared.Keys.{Keys}
+use Rattle.srtp_c.specs.declared.Profile.{Profile}
 use Rattle.srtp_c.specs.declared.Session.{Session}
 use Rattle.srtp_c.specs.declared.Sender.{Sender}
 use Rattle.srtp_c.specs.declared.Window.{Window}
@@ -33,6 +37,17 @@ cipherOf n = cond (eqb n 1) Aes Null
 abbrev pub cipherNumber : Cipher → ℕ
 cipherNumber Null = 0
 cipherNumber Aes = 1
+
+abbrev pub integrityOf : (n rate : ℕ) → Integrity
+integrityOf n rate = cond (eqb n 1) (Rccm2 rate) HmacSha1
+
+abbrev pub integrityNumber : Integrity → ℕ
+integrityNumber HmacSha1 = 0
+integrityNumber (Rccm2 rate) = 1
+
+abbrev pub integrityRate : Integrity → ℕ
+integrityRate HmacSha1 = 0
+integrityRate (Rccm2 rate) = rate
 
 abbrev pub lastOf : (has index : ℕ) → LastSent
 lastOf has i = cond (eqb has 1) (last.At i) last.Nothing
@@ -56,7 +71,23 @@ abbrev pub highestIndex : Highest → ℕ
 highestIndex highest.Absent = 0
 highestIndex (highest.At i) = i
 
--- ---- keys and sessions
+-- ---- profiles, keys and sessions
+-- whether each number of an enum is one
+abbrev pub profileNamed : Profile → Bool
+profileNamed p = twoCased (p .cipher) && twoCased (p .integrity)
+
+abbrev pub profileOf : Profile → core-profile.Profile
+profileOf p = record { cipher = cipherOf (p .cipher); integrity = integrityOf (p .integrity) (p .rate); «tag_len» = p .«tag_len» }
+
+abbrev pub plainProfile : core-profile.Profile → Profile
+plainProfile p =
+    record {
+      cipher = cipherNumber (p .cipher);
+      integrity = integrityNumber (p .integrity);
+      rate = integrityRate (p .integrity);
+      «tag_len» = p .«tag_len»;
+    }
+
 abbrev pub stateOf : HashState → State
 stateOf s = record { a = s .a; b = s .b; c = s .c; d = s .d; e = s .e }
 
@@ -72,13 +103,7 @@ plainKeys k = record { round = k .round; inner = plainState (k .tag .inner); out
 abbrev pub sessionOf : Session → core-session.Session
 sessionOf s =
     record {
-      settings =
-          record {
-            profile = record { cipher = cipherOf (s .cipher); «tag_len» = s .«tag_len» };
-            ssrc = s .ssrc;
-            mki = s .mki;
-            «mki_len» = s .«mki_len»;
-          };
+      settings = record { profile = profileOf (s .profile); ssrc = s .ssrc; mki = s .mki; «mki_len» = s .«mki_len» };
       media = keysOf (s .media);
       control = keysOf (s .control);
     }
@@ -86,18 +111,17 @@ sessionOf s =
 abbrev pub plainSession : core-session.Session → Session
 plainSession s =
     record {
-      cipher = cipherNumber (s .settings .profile .cipher);
+      profile = plainProfile (s .settings .profile);
       ssrc = s .settings .ssrc;
-      «tag_len» = s .settings .profile .«tag_len»;
-      «mki_len» = s .settings .«mki_len»;
       mki = s .settings .mki;
+      «mki_len» = s .settings .«mki_len»;
       media = plainKeys (s .media);
       control = plainKeys (s .control);
     }
 
 -- ---- senders. A struct is a context where each number of an enum has a case, and else stands for the closed one.
 abbrev pub senderNamed : Sender → Bool
-senderNamed c = twoCased (c .session .cipher) && twoCased (c .«has_last»)
+senderNamed c = profileNamed (c .session .profile) && twoCased (c .«has_last»)
 
 unfoldable pub senderOf : Sender → core-sender.Sender
 senderOf c =
@@ -126,7 +150,7 @@ abbrev pub plainWindow : core-window.Window → Window
 plainWindow w = record { «has_highest» = hasHighest (w .highest); highest = highestIndex (w .highest); bits = w .bits }
 
 abbrev pub receiverNamed : Receiver → Bool
-receiverNamed c = twoCased (c .session .cipher) && (twoCased (c .media .«has_highest») && twoCased (c .control .«has_highest»))
+receiverNamed c = profileNamed (c .session .profile) && (twoCased (c .media .«has_highest») && twoCased (c .control .«has_highest»))
 
 unfoldable pub receiverOf : Receiver → core-receiver.Receiver
 receiverOf c =

@@ -6,14 +6,12 @@ ghost use Rattle.srtp_c.specs.Plain.{plainSender, plainReceiver};
 ghost use Rattle.srtp_c.specs.Boundary.{SendsMedia, SendsControl, ReceivesMedia, ReceivesControl, senderAfter, receiverAfter};
 ghost use Rattle.srtp_c.specs.Boundary.{setUpNumber, numberGiven, plainSetUpSender, plainSetUpReceiver};
 use crate::Answer;
+use crate::Profile;
 use crate::Receiver;
 use crate::ReceiverSetUp;
 use crate::Sender;
 use crate::SenderSetUp;
-use crate::plain::both_two_cased;
-use crate::plain::cipher_of;
 use crate::plain::number_of;
-use crate::plain::two_cased;
 
 // ---- contexts
 
@@ -60,18 +58,17 @@ pub extern "C" fn tindrabek_sender_set_up(
     key: &[u8],
     salt: &[u8],
     mki: &[u8],
-    tag_len: usize,
-    cipher: u32,
+    profile: Profile,
 ) -> SenderSetUp
-    ensures { λ r. ⌜ r ≡ plainSetUpSender ssrc (now (key .entry)) (now (salt .entry)) (now (mki .entry)) «tag_len» cipher ⌝ }
+    ensures { λ r. ⌜ r ≡ plainSetUpSender ssrc (now (key .entry)) (now (salt .entry)) (now (mki .entry)) profile ⌝ }
 {
-    if !two_cased(cipher) {
+    if !profile.named() {
         return SenderSetUp {
             number: number_of(srtp::Refusal::Setup),
             context: tindrabek_sender_closed(),
         };
     }
-    let made = srtp::Sender::set_up(ssrc, key, salt, mki, tag_len, cipher_of(cipher));
+    let made = srtp::Sender::set_up(ssrc, key, salt, mki, profile.to_core());
     let answer = made.answer;
     let context = made.context;
     SenderSetUp {
@@ -87,15 +84,14 @@ pub extern "C" fn tindrabek_receiver_set_up(
     key: &[u8],
     salt: &[u8],
     mki: &[u8],
-    tag_len: usize,
-    cipher: u32,
+    profile: Profile,
     rollover: u32,
     known: u32,
     number: u16,
 ) -> ReceiverSetUp
-    ensures { λ r. ⌜ r ≡ plainSetUpReceiver ssrc (now (key .entry)) (now (salt .entry)) (now (mki .entry)) «tag_len» cipher rollover known number ⌝ }
+    ensures { λ r. ⌜ r ≡ plainSetUpReceiver ssrc (now (key .entry)) (now (salt .entry)) (now (mki .entry)) profile rollover known number ⌝ }
 {
-    if !both_two_cased(cipher, known) {
+    if !profile.named_with(known) {
         return ReceiverSetUp {
             number: number_of(srtp::Refusal::Setup),
             context: tindrabek_receiver_closed(),
@@ -106,8 +102,7 @@ pub extern "C" fn tindrabek_receiver_set_up(
         key,
         salt,
         mki,
-        tag_len,
-        cipher_of(cipher),
+        profile.to_core(),
         rollover,
         number_given(known, number),
     );

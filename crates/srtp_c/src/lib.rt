@@ -23,14 +23,23 @@ pub struct Keys {
     pub salt: [u8; 14],
 }
 
-// What packets are protected under. `cipher` is 0 for NULL and 1 for AES; the MKI is the first `mki_len` bytes of `mki`.
+// A protection profile. `cipher` is 0 for NULL and 1 for AES; `integrity` is 0 for HMAC-SHA1, where `rate` is not looked at, and 1 for RFC
+// 4771's mode RCCm2 at that rate.
+#[repr(C)]
+pub struct Profile {
+    pub cipher: u32,
+    pub integrity: u32,
+    pub rate: u16,
+    pub tag_len: usize,
+}
+
+// What packets are protected under. The MKI is the first `mki_len` bytes of `mki`.
 #[repr(C)]
 pub struct Session {
-    pub cipher: u32,
+    pub profile: Profile,
     pub ssrc: u32,
-    pub tag_len: usize,
-    pub mki_len: usize,
     pub mki: [u8; 4],
+    pub mki_len: usize,
     pub media: Keys,
     pub control: Keys,
 }

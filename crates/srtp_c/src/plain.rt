@@ -3,11 +3,13 @@
 ghost use mathlib.Core.Path.{_≡_};
 ghost use mathlib.Core.Bool.{_&&_};
 ghost use Rattle.srtp.specs.Refusals.{numberOf};
-ghost use Rattle.srtp_c.specs.Plain.{twoCased, stateOf, plainState, keysOf, plainKeys, cipherOf, cipherNumber, sessionOf, plainSession};
+ghost use Rattle.srtp_c.specs.Plain.{twoCased, cipherOf, cipherNumber, integrityOf, integrityNumber, integrityRate};
+ghost use Rattle.srtp_c.specs.Plain.{profileNamed, profileOf, plainProfile, stateOf, plainState, keysOf, plainKeys, sessionOf, plainSession};
 ghost use Rattle.srtp_c.specs.Plain.{lastOf, hasLast, lastIndex, senderOf, plainSender};
 ghost use Rattle.srtp_c.specs.Plain.{highestOf, hasHighest, highestIndex, windowOf, plainWindow, receiverNamed, receiverOf, plainReceiver};
 use crate::HashState;
 use crate::Keys;
+use crate::Profile;
 use crate::Receiver;
 use crate::Sender;
 use crate::Session;
@@ -16,17 +18,18 @@ use replay::index::Highest;
 use replay::index::LastSent;
 use srtp::Refusal;
 use transforms::Cipher;
+use transforms::Integrity;
 
 // ---- numbers of enums
 
 // Whether `n` is a number of an enum of two cases.
-pub(crate) fn two_cased(n: u32) -> bool
+fn two_cased(n: u32) -> bool
     ensures { λ r. ⌜ r ≡ twoCased n ⌝ }
 {
     n <= 1
 }
 
-pub(crate) fn both_two_cased(m: u32, n: u32) -> bool
+fn both_two_cased(m: u32, n: u32) -> bool
     ensures { λ r. ⌜ r ≡ (twoCased m && twoCased n) ⌝ }
 {
     if !two_cased(m) {
@@ -35,7 +38,7 @@ pub(crate) fn both_two_cased(m: u32, n: u32) -> bool
     two_cased(n)
 }
 
-pub(crate) fn cipher_of(n: u32) -> Cipher
+fn cipher_of(n: u32) -> Cipher
     ensures { λ r. ⌜ r ≡ cipherOf n ⌝ }
 {
     if n == 1 { Cipher::Aes } else { Cipher::Null }
@@ -47,6 +50,34 @@ fn cipher_number(cipher: Cipher) -> u32
     match cipher {
         Cipher::Null => 0,
         Cipher::Aes => 1,
+    }
+}
+
+fn integrity_of(n: u32, rate: u16) -> Integrity
+    ensures { λ r. ⌜ r ≡ integrityOf n rate ⌝ }
+{
+    if n == 1 {
+        Integrity::Rccm2(rate)
+    } else {
+        Integrity::HmacSha1
+    }
+}
+
+fn integrity_number(integrity: Integrity) -> u32
+    ensures { λ r. ⌜ r ≡ integrityNumber integrity ⌝ }
+{
+    match integrity {
+        Integrity::HmacSha1 => 0,
+        Integrity::Rccm2(_) => 1,
+    }
+}
+
+fn integrity_rate(integrity: Integrity) -> u16
+    ensures { λ r. ⌜ r ≡ integrityRate integrity ⌝ }
+{
+    match integrity {
+        Integrity::HmacSha1 => 0,
+        Integrity::Rccm2(rate) => rate,
     }
 }
 
@@ -113,7 +144,49 @@ pub(crate) fn number_of(refusal: Refusal) -> u32
     refusal.number() as u32
 }
 
-// ---- keys and sessions
+// ---- profiles, keys and sessions
+
+impl Profile {
+    // Whether each number of an enum is one.
+    pub(crate) fn named(self) -> bool
+        ensures { λ r. ⌜ r ≡ profileNamed self ⌝ }
+    {
+        both_two_cased(self.cipher, self.integrity)
+    }
+
+    // And `n`, which stands beside the profile, is one too.
+    pub(crate) fn named_with(self, n: u32) -> bool
+        ensures { λ r. ⌜ r ≡ (profileNamed self && twoCased n) ⌝ }
+    {
+        if !self.named() {
+            return false;
+        }
+        two_cased(n)
+    }
+
+    pub(crate) fn to_core(self) -> session::Profile
+        ensures { λ r. ⌜ r ≡ profileOf self ⌝ }
+    {
+        session::Profile {
+            cipher: cipher_of(self.cipher),
+            integrity: integrity_of(self.integrity, self.rate),
+            tag_len: self.tag_len,
+        }
+    }
+
+    fn from_core(profile: session::Profile) -> Profile
+        ensures { λ r. ⌜ r ≡ plainProfile profile ⌝ }
+    {
+        let cipher = profile.cipher;
+        let integrity = profile.integrity;
+        Profile {
+            cipher: cipher_number(cipher),
+            integrity: integrity_number(integrity),
+            rate: integrity_rate(integrity),
+            tag_len: profile.tag_len,
+        }
+    }
+}
 
 impl HashState {
     fn to_core(self) -> sha1::State
@@ -180,16 +253,13 @@ impl Session {
     fn to_core(self) -> session::Session
         ensures { λ r. ⌜ r ≡ sessionOf self ⌝ }
     {
-        let cipher = cipher_of(self.cipher);
+        let profile = self.profile;
         let mki = self.mki;
         let media = self.media;
         let control = self.control;
         session::Session {
             settings: session::Settings {
-                profile: session::Profile {
-                    cipher,
-                    tag_len: self.tag_len,
-                },
+                profile: profile.to_core(),
                 ssrc: self.ssrc,
                 mki,
                 mki_len: self.mki_len,
@@ -204,16 +274,14 @@ impl Session {
     {
         let settings = session.settings;
         let profile = settings.profile;
-        let cipher = profile.cipher;
         let mki = settings.mki;
         let media = session.media;
         let control = session.control;
         Session {
-            cipher: cipher_number(cipher),
+            profile: Profile::from_core(profile),
             ssrc: settings.ssrc,
-            tag_len: profile.tag_len,
-            mki_len: settings.mki_len,
             mki,
+            mki_len: settings.mki_len,
             media: Keys::from_core(media),
             control: Keys::from_core(control),
         }
@@ -249,10 +317,11 @@ impl Sender {
     pub(crate) fn to_core(self) -> srtp::Sender
         ensures { λ r. ⌜ r ≡ senderOf self ⌝ }
     {
-        if !both_two_cased(self.session.cipher, self.has_last) {
+        let session = self.session;
+        let profile = session.profile;
+        if !profile.named_with(self.has_last) {
             return srtp::Sender::closed();
         }
-        let session = self.session;
         srtp::Sender {
             session: session.to_core(),
             media: replay::index::MediaSender {
@@ -284,7 +353,9 @@ impl Receiver {
     fn named(self) -> bool
         ensures { λ r. ⌜ r ≡ receiverNamed self ⌝ }
     {
-        if !two_cased(self.session.cipher) {
+        let session = self.session;
+        let profile = session.profile;
+        if !profile.named() {
             return false;
         }
         both_two_cased(self.media.has_highest, self.control.has_highest)

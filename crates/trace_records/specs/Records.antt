@@ -9,6 +9,7 @@ use Rattle.octets.specs.Buffer.{over}
 use Rattle.srtp.specs.Outcomes.{Outcome, answerOf, nextOf, bufferOf}
 use Rattle.srtp.specs.Contexts.{closedSender, closedReceiver, setUpSender, setUpReceiver}
 use Rattle.srtp.specs.Calls.{sendMedia, sendControl, receiveMedia, receiveControl}
+use Rattle.transforms.specs.declared.Integrity.{Integrity}
 use Rattle.srtp.specs.declared.LastNumber.{LastNumber}
 use Rattle.srtp.specs.declared.Receiver.{Receiver}
 use Rattle.srtp.specs.declared.ReceiverSetUp.{ReceiverSetUp}
@@ -22,8 +23,10 @@ use Rattle.trace_records.specs.declared.Called.{Called}
 use Rattle.trace_records.specs.declared.Answered.{Answered}
 use Rattle.trace_records.specs.declared.setups.CipherField.{CipherField}
 use Rattle.trace_records.specs.declared.setups.CipherField.the-variants.{Named, Unknown}
+use Rattle.trace_records.specs.declared.setups.IntegrityField.{IntegrityField}
+use Rattle.trace_records.specs.declared.setups.IntegrityField.the-variants.{Selected, Misfit}
 use Rattle.trace_records.specs.Answers.{answerBytes, misfitHead, callHead, setUpHead}
-use Rattle.trace_records.specs.Layouts.{byteAt, cipherNamed, setUpOf, senderFits, rolloverOf, knownAt, lastNumber, receiverFits, roomOf, packetOf, callFits}
+use Rattle.trace_records.specs.Layouts.{byteAt, cipherNamed, setUpOf, senderSettings, rolloverOf, knownAt, lastNumber, receiverSettings, roomOf, packetOf, callFits}
 
 -- a call before its set-up is a call on the closed context
 abbrev pub start : Contexts
@@ -48,23 +51,32 @@ abbrev pub misfit : (op : ℕ) → Contexts → Reply
 misfit op c = reply op misfitHead [] c
 
 -- ---- set-ups: a refused one leaves the closed context of its kind
-unfoldable pub senderOf : CipherField → List ℕ → SenderSetUp
-senderOf (Named cipher) b = setUpSender (setUpOf cipher b)
-senderOf Unknown b = record { answer = Refused Setup; context = closedSender }
+unfoldable pub senderOf : CipherField → Integrity → List ℕ → SenderSetUp
+senderOf (Named cipher) integrity b = setUpSender (setUpOf cipher integrity b)
+senderOf Unknown integrity b = record { answer = Refused Setup; context = closedSender }
 
-unfoldable pub receiverOf : CipherField → List ℕ → (rollover : ℕ) → LastNumber → ReceiverSetUp
-receiverOf (Named cipher) b rollover number = setUpReceiver (setUpOf cipher b) rollover number
-receiverOf Unknown b rollover number = record { answer = Refused Setup; context = closedReceiver }
+unfoldable pub receiverOf : CipherField → Integrity → List ℕ → (rollover : ℕ) → LastNumber → ReceiverSetUp
+receiverOf (Named cipher) integrity b rollover number = setUpReceiver (setUpOf cipher integrity b) rollover number
+receiverOf Unknown integrity b rollover number = record { answer = Refused Setup; context = closedReceiver }
+
+-- under what the settings select, if they and the body fit
+unfoldable pub senderUnder : IntegrityField → Contexts → (op : ℕ) → (body : List ℕ) → Reply
+senderUnder (Selected integrity) c op b =
+    let made = senderOf (cipherNamed (byteAt 1 b)) integrity b in
+    reply op (setUpHead (made .answer)) [] (withSender c (made .context))
+senderUnder Misfit c op b = misfit op c
+
+unfoldable pub receiverUnder : IntegrityField → Contexts → (op : ℕ) → (body : List ℕ) → Reply
+receiverUnder (Selected integrity) c op b =
+    let made = receiverOf (cipherNamed (byteAt 1 b)) integrity b (rolloverOf b) (lastNumber (knownAt b) b) in
+    reply op (setUpHead (made .answer)) [] (withReceiver c (made .context))
+receiverUnder Misfit c op b = misfit op c
 
 unfoldable pub senderSetUp : Contexts → (op : ℕ) → (body : List ℕ) → Reply
-senderSetUp c op b =
-    let made = senderOf (cipherNamed (byteAt 1 b)) b in
-    cond (senderFits b) (reply op (setUpHead (made .answer)) [] (withSender c (made .context))) (misfit op c)
+senderSetUp c op b = senderUnder (senderSettings b) c op b
 
 unfoldable pub receiverSetUp : Contexts → (op : ℕ) → (body : List ℕ) → Reply
-receiverSetUp c op b =
-    let made = receiverOf (cipherNamed (byteAt 1 b)) b (rolloverOf b) (lastNumber (knownAt b) b) in
-    cond (receiverFits b) (reply op (setUpHead (made .answer)) [] (withReceiver c (made .context))) (misfit op c)
+receiverSetUp c op b = receiverUnder (receiverSettings b) c op b
 
 -- ---- calls: each byte of the outgoing buffer is A5 before
 abbrev pub filled : (room : ℕ) → List ℕ

@@ -7,5 +7,6 @@ pub mod StreamLaws
 pub mod CipherLaws
 mod EncipherLaws
 pub mod TagLaws
+pub mod RccLaws
 pub mod DerivationLaws
 pub mod Examples

@@ -2,4 +2,5 @@ pub mod CounterMode
 pub mod KeyDerivation
 pub mod Ciphers
 pub mod Tag
+pub mod Rcc
 pub mod Rfc3711

@@ -1,4 +1,5 @@
-// The cryptographic transforms of RFC 3711, section 4: keystream, authentication tag, key derivation. Bytes in, bytes out, no state.
+// The cryptographic transforms of RFC 3711, section 4, and RFC 4771's integrity transform: keystream, authentication tag, key derivation.
+// Bytes in, bytes out, no state.
 mod buffers;
 mod ciphers;
 mod counter_mode;
@@ -22,4 +23,11 @@ pub struct SessionKeys {
 pub enum Cipher {
     Aes,
     Null,
+}
+
+// The integrity transforms of media packets: RFC 3711's HMAC-SHA1, or RFC 4771's in mode RCCm2, at a rate. Under the latter the tag of each
+// packet whose sequence number is 0 mod the rate carries the rollover counter.
+pub enum Integrity {
+    HmacSha1,
+    Rccm2(u16),
 }

@@ -1,12 +1,16 @@
-// The authentication tag (RFC 3711, 4.2): all twenty bytes of HMAC-SHA1, of which a packet carries the first ones.
+// The authentication tag: twenty bytes of it, of which a packet has the first ones (RFC 3711, 4.2; RFC 4771, 2).
 ghost use mathlib.Core.Path.{_≡_};
+ghost use mathlib.Core.List.{_++_};
 ghost use Prim.Native.Nat.{_^_, _<_};
-ghost use lib.ListN.{length};
-ghost use Rattle.transforms.specs.Tag.{mediaTag, controlTag};
+ghost use lib.ListN.{length, take};
+ghost use Rattle.octets.specs.BigEndian.{toBytes};
+ghost use Rattle.transforms.specs.Tag.{rolloverCounter, mediaTag, controlTag};
+ghost use Rattle.transforms.specs.Rcc.{carriesCounter, integrityTag};
+use crate::Integrity;
 use crate::SessionKeys;
 
-// Of the media packet with this index. The rollover counter behind the packet is that of the index, and no other can be given.
-pub fn media_tag(keys: SessionKeys, authenticated: &[u8], index: u64) -> [u8; 20]
+// RFC 3711's, of the media packet with this index. The rollover counter behind the packet is that of the index, and no other can be given.
+fn mac(keys: SessionKeys, authenticated: &[u8], index: u64) -> [u8; 20]
     requires { ⌜ (length (now authenticated) < 2 ^ 60) × (index < 2 ^ 48) ⌝ }
     ensures { λ r. ⌜ r ≡ mediaTag 20 keys (now (authenticated .entry)) index ⌝ }
 {
@@ -14,6 +18,50 @@ pub fn media_tag(keys: SessionKeys, authenticated: &[u8], index: u64) -> [u8; 20
     let mut counter = [0u8; 4];
     octets::store32(&mut counter, 0, (index >> 16) as u32);
     sha1::hmac(k, authenticated, &counter)
+}
+
+impl Integrity {
+    // Whether a packet with this sequence number carries the rollover counter in its tag (RFC 4771, 2).
+    pub fn carries(self, number: u16) -> bool
+        ensures { λ r. ⌜ r ≡ carriesCounter self number ⌝ }
+    {
+        let Integrity::Rccm2(rate) = self else {
+            return false;
+        };
+        if rate == 0 {
+            return false;
+        }
+        number % rate == 0
+    }
+}
+
+// The rollover counter of the index, and behind it the MAC as far as twenty bytes reach.
+fn with_counter(mac: [u8; 20], index: u64) -> [u8; 20]
+    requires { ⌜ index < 2 ^ 48 ⌝ }
+    ensures { λ r. ⌜ r ≡ toBytes 4 (rolloverCounter index) ++ take 16 mac ⌝ }
+{
+    let mut tag = [0u8; 20];
+    octets::store32(&mut tag, 0, (index >> 16) as u32);
+    octets::copy_over(&mac[..16], &mut tag[4..]);
+    tag
+}
+
+// Of the media packet with this index. Whether it carries the rollover counter is a matter of its sequence number.
+pub fn media_tag(
+    integrity: Integrity,
+    keys: SessionKeys,
+    authenticated: &[u8],
+    index: u64,
+) -> [u8; 20]
+    requires { ⌜ (length (now authenticated) < 2 ^ 60) × (index < 2 ^ 48) ⌝ }
+    ensures { λ r. ⌜ r ≡ integrityTag integrity 20 keys (now (authenticated .entry)) index ⌝ }
+{
+    let whole = mac(keys, authenticated, index);
+    let number = (index % 0x1_0000) as u16;
+    if integrity.carries(number) {
+        return with_counter(whole, index);
+    }
+    whole
 }
 
 // Of a control packet.

@@ -5,6 +5,7 @@ ghost use lib.ListN.{length};
 ghost use Rattle.aes.specs.SBox.{SBoxTable};
 use crate::hex;
 use transforms::Cipher;
+use transforms::Integrity;
 use transforms::SessionKeys;
 
 pub fn run() {
@@ -132,7 +133,7 @@ fn protect_media(t: &[u8; 256], keys: SessionKeys, packet: &mut [u8])
         &payload,
         &mut packet[12..],
     );
-    let tag = transforms::media_tag(keys, packet, 0x1234);
+    let tag = transforms::media_tag(Integrity::HmacSha1, keys, packet, 0x1234);
     print_packet(b"protected RTP ", packet, tag);
 }
 

@@ -1,8 +1,7 @@
 //! Answers a trace with one known slip: H moves before the tag is checked, so that one forged
 //! packet blinds the stream. It is there to show that the comparison can fail.
 
-use reference::index;
-use reference::layout::RtpHeader;
+use reference::layout::ProtectedMedia;
 use reference::refusal::Refusal;
 use reference::trace::{Call, Contexts, Records, Request};
 use std::io::{self, Read, Write};
@@ -26,9 +25,9 @@ fn main() -> io::Result<()> {
 
 fn move_highest(contexts: &mut Contexts, packet: &[u8]) {
     let receiver = &mut contexts.receiver;
-    let Some(header) = RtpHeader::read(packet) else { return };
-    let estimate = index::estimate(receiver.media.highest, receiver.started_count, header.number);
-    if let Ok(index) = index::within_ends(estimate) {
+    let Some(session) = &receiver.session else { return };
+    let Some(packet) = ProtectedMedia::read(packet, &session.settings) else { return };
+    if let Ok(index) = receiver.media_index(&packet) {
         receiver.media.highest = receiver.media.highest.max(Some(index));
     }
 }

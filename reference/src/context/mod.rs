@@ -25,7 +25,7 @@ pub struct Finished {
 /// What a call on a context answers.
 pub type Answer = Result<Finished, Refusal>;
 
-/// A context's session, unless it is closed or its lengths are off the list.
+/// A context's session, unless it is closed or its settings are off the list.
 fn open_session(session: &Option<Session>) -> Result<&Session, Refusal> {
     session.as_ref().filter(|session| session.settings.are_admitted()).ok_or(Refusal::Setup)
 }

@@ -56,7 +56,7 @@ impl Receiver {
         let length = packet.authenticated.len();
         let out = room_for(out, length)?;
         Refusal::Key.unless(packet.mki == session.settings.mki)?;
-        let index = self.media_index(packet.header.number)?;
+        let index = self.media_index(&packet)?;
         self.media.judge(index)?;
         Refusal::Forged.unless(session.verify_media(&packet, index))?;
         session.open_media(&packet, index, out);
@@ -80,9 +80,19 @@ impl Receiver {
         Ok(Finished { index: packet.index, length })
     }
 
-    /// The index of a media number; SPENT above the last one, OLD below zero.
-    fn media_index(&self, number: u16) -> Result<u64, Refusal> {
-        index::within_ends(index::estimate(self.media.highest, self.started_count, number))
+    /// The index of a media packet: read where the tag carries the rollover count, and then
+    /// always between the ends; else estimated.
+    pub fn media_index(&self, packet: &ProtectedMedia) -> Result<u64, Refusal> {
+        match packet.carried_count {
+            Some(count) => Ok(index::join(count, packet.header.number)),
+            None => index::within_ends(self.estimate(packet.header.number)),
+        }
+    }
+
+    /// The index of a media number by H, or by the started count where there is no H. It may lie
+    /// beyond either end.
+    pub fn estimate(&self, number: u16) -> i128 {
+        index::estimate(self.media.highest, self.started_count, number)
     }
 
     /// Row 1: the session, if the context is one that a run could have.

@@ -1,8 +1,11 @@
 //! Damage to packets, field by field.
 
+use crate::context::Receiver;
+use crate::index;
 use crate::layout::{ProtectedMedia, INDEX_WORD_LENGTH, RTCP_CLEAR_LENGTH};
 use crate::random::Random;
-use crate::settings::{Settings, CONTROL_TAG_LENGTH, MAX_PLAIN_LENGTH};
+use crate::settings::{Integrity, Settings};
+use crate::settings::{CARRIED_COUNT_LENGTH, CONTROL_TAG_LENGTH, MAX_PLAIN_LENGTH};
 use std::ops::Range;
 
 /// Where an RTP packet has its SSRC.
@@ -22,6 +25,8 @@ enum Kind {
     IndexWord,
     Mki,
     Tag,
+    Count,
+    EndOfTag,
     SwapMkiAndTag,
     Truncate,
     CutByOne,
@@ -61,9 +66,9 @@ pub fn plain_control(random: &mut Random, packet: &mut Vec<u8>) {
     harm_common(random, packet, kind, RTCP_SSRC);
 }
 
-/// Harms a protected media packet.
-pub fn protected_media(random: &mut Random, packet: &mut Vec<u8>, settings: &Settings) {
-    let kind = random.weighted([
+/// What happens to a protected media packet.
+fn media_kind(random: &mut Random, integrity: Integrity, carries_count: bool) -> Kind {
+    random.weighted([
         (3, Kind::Header),
         (1, Kind::Version),
         (1, Kind::Sources),
@@ -73,25 +78,64 @@ pub fn protected_media(random: &mut Random, packet: &mut Vec<u8>, settings: &Set
         (3, Kind::Text),
         (3, Kind::Mki),
         (4, Kind::Tag),
+        (10 * u64::from(carries_count), Kind::Count),
+        (8 * u64::from(integrity != Integrity::HmacSha1), Kind::EndOfTag),
         (1, Kind::SwapMkiAndTag),
         (2, Kind::Truncate),
         (1, Kind::CutByOne),
         (1, Kind::Append),
         (2, Kind::TooLong),
-    ]);
+    ])
+}
+
+/// Harms a protected media packet. A rollover count in its tag is changed with a view to what
+/// the receiver holds.
+pub fn protected_media(
+    random: &mut Random,
+    packet: &mut Vec<u8>,
+    settings: &Settings,
+    receiver: &Receiver,
+) {
+    let parts = ProtectedMedia::read(packet, settings);
+    let carries_count = parts.is_some_and(|parts| parts.carried_count.is_some());
+    let kind = media_kind(random, settings.integrity, carries_count);
+    let text = parts.map_or(0, |parts| parts.header.length);
     let end = packet.len();
     let tag = end.saturating_sub(settings.media_tag_length);
     let mki = tag.saturating_sub(settings.mki.len());
-    let text = ProtectedMedia::read(packet, settings).map_or(0, |parts| parts.header.length);
     match kind {
         Kind::Header => flip_bit(random, packet, 0..text),
         Kind::Text => flip_bit(random, packet, text..mki),
         Kind::Mki => flip_bit(random, packet, mki..tag),
         Kind::Tag => flip_bit(random, packet, tag..end),
+        Kind::Count => change_count(random, &mut packet[tag..], receiver),
+        Kind::EndOfTag => flip_bit(random, packet, end.saturating_sub(CARRIED_COUNT_LENGTH)..end),
         Kind::SwapMkiAndTag => packet[mki..].rotate_left(tag - mki),
         Kind::ExtensionCount => stretch_extension(random, packet, mki),
         _ => harm_common(random, packet, kind, RTP_SSRC),
     }
+}
+
+/// Changes the rollover count at the front of a tag: by one bit, to one near it or near the
+/// receiver's, or to an end.
+fn change_count(random: &mut Random, tag: &mut [u8], receiver: &Receiver) {
+    let Some(field) = tag.first_chunk_mut::<CARRIED_COUNT_LENGTH>() else { return };
+    let count = u32::from_be_bytes(*field);
+    let highest = receiver.media.highest.map_or(receiver.started_count, index::rollover_count);
+    let by_one_bit = count ^ 1 << random.within(0..=31);
+    let changed = random.weighted([
+        (4, by_one_bit),
+        (3, highest),
+        (1, highest.wrapping_add(1)),
+        (1, highest.wrapping_sub(1)),
+        (1, count.wrapping_add(1)),
+        (1, count.wrapping_sub(1)),
+        (1, receiver.started_count),
+        (1, 0),
+        (1, u32::MAX),
+    ]);
+    let changed = if changed == count { by_one_bit } else { changed };
+    *field = changed.to_be_bytes();
 }
 
 /// Harms a protected control packet.

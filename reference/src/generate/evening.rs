@@ -6,8 +6,8 @@
 
 use super::recorder::Recorder;
 use crate::session::Session;
-use crate::settings::{SetUp, Start};
-use crate::trace::{set_up_body, start_fields, Call};
+use crate::settings::{Integrity, SetUp, Start};
+use crate::trace::{receiver_body, sender_body, Call};
 use std::collections::BTreeMap;
 
 /// Room for every packet of the evening.
@@ -41,7 +41,7 @@ struct Evening {
 
 impl Evening {
     fn set_up(&mut self) {
-        self.recorder.record(Call::SetUpSender.op(), &set_up_body(&values()));
+        self.recorder.record(Call::SetUpSender.op(), &sender_body(&values()));
         self.set_up_receiver(&values());
     }
 
@@ -121,8 +121,7 @@ impl Evening {
 
     fn set_up_receiver(&mut self, values: &SetUp) {
         let start = Start { rollover_count: 0, last_number: None };
-        let body = [set_up_body(values), start_fields(start, 0)].concat();
-        self.recorder.record(Call::SetUpReceiver.op(), &body);
+        self.recorder.record(Call::SetUpReceiver.op(), &receiver_body(values, start, 0));
     }
 
     fn send(&mut self, number: u16, text: &str) {
@@ -152,6 +151,7 @@ fn values() -> SetUp {
         master_key: b"key of the hall!".to_vec(),
         master_salt: b"salt of a hall".to_vec(),
         mki: b"k".to_vec(),
+        integrity: Integrity::HmacSha1,
     }
 }
 

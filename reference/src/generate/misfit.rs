@@ -3,7 +3,9 @@
 use super::recorder::Recorder;
 use super::set_ups;
 use crate::random::Random;
-use crate::trace::{set_up_body, start_fields, Call, Record, MAX_BODY_LENGTH, MAX_ROOM};
+use crate::settings::{Integrity, SetUp};
+use crate::trace::{receiver_body, sender_body, setting, Call, Record};
+use crate::trace::{MAX_BODY_LENGTH, MAX_ROOM, RATE_ID};
 
 /// Adds a record that doesn't fit, or that only just does.
 pub fn record(random: &mut Random, recorder: &mut Recorder) {
@@ -34,20 +36,22 @@ fn unknown_op(random: &mut Random, recorder: &mut Recorder) {
     recorder.record(op, &body);
 }
 
-/// A set-up that is cut, or followed by a setting, or neither known nor unknown.
+/// A set-up that is cut, or followed by wrong settings, or neither known nor unknown.
 fn set_up(random: &mut Random, recorder: &mut Recorder) {
     let call = random.pick([Call::SetUpSender, Call::SetUpReceiver]);
-    let mut body = set_up_body(&set_ups::good(random));
-    if call == Call::SetUpReceiver {
-        let start = set_ups::start(random);
-        body.extend(start_fields(start, random.bits() as u16));
-    }
-    let end = body.len();
-    match random.within(0..=5) {
-        0 | 1 => body.truncate(random.length(0..=end - 1)),
-        2 => body.extend(setting(random)),
-        3 => body.push(random.byte()),
-        4 if call == Call::SetUpReceiver => body[end - 3] = random.pick([2, 3, 128, 255]),
+    let values = set_ups::good(random);
+    let mut body = match call {
+        Call::SetUpSender => sender_body(&values),
+        _ => receiver_body(&values, set_ups::start(random), random.bits() as u16),
+    };
+    match random.within(0..=6) {
+        0 | 1 => body.truncate(random.length(0..=body.len() - 1)),
+        2 | 3 => body.extend(wrong_settings(random, values.integrity)),
+        4 => body.push(random.byte()),
+        5 if call == Call::SetUpReceiver => {
+            let fields = sender_body(&SetUp { integrity: Integrity::HmacSha1, ..values }).len();
+            body[fields + 4] = random.pick([2, 3, 128, 255]);
+        }
         _ => {
             let more = random.length(1..=30);
             body.extend(random.bytes(more));
@@ -56,12 +60,26 @@ fn set_up(random: &mut Random, recorder: &mut Recorder) {
     recorder.record(call.op(), &body);
 }
 
-/// A well-formed setting of an id far from those that come first.
-fn setting(random: &mut Random) -> Vec<u8> {
+/// Settings that don't fit behind those of the transform: unknown, of another length, twice, or
+/// cut.
+fn wrong_settings(random: &mut Random, integrity: Integrity) -> Vec<u8> {
+    let rate = setting(RATE_ID, &random.bytes(2));
+    // Ids far from those that come first.
+    let high_id = random.within(200..=255) as u8;
     let length = random.length(0..=4);
-    let mut setting = vec![random.within(200..=255) as u8, length as u8];
-    setting.extend(random.bytes(length));
-    setting
+    let unknown = setting(random.weighted([(1, 0), (4, high_id)]), &random.bytes(length));
+    match random.within(0..=5) {
+        0 => unknown,
+        1 => [unknown, rate].concat(),
+        2 => {
+            let length = random.pick([0, 1, 3, 4]);
+            setting(RATE_ID, &random.bytes(length))
+        }
+        3 if integrity == Integrity::HmacSha1 => [&rate[..], &rate].concat(),
+        3 => rate,
+        4 => rate[..random.length(1..=3)].to_vec(),
+        _ => [rate, random.bytes(1)].concat(),
+    }
 }
 
 fn short_body(random: &mut Random, recorder: &mut Recorder) {

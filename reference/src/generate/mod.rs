@@ -4,6 +4,7 @@
 //! mixes good packets with lost, late, repeated, damaged and strange ones. The maker answers its
 //! own records as it goes, so that it knows each context and can aim at the limits.
 
+mod carried;
 mod damage;
 mod evening;
 mod misfit;

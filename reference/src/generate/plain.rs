@@ -44,7 +44,7 @@ pub fn control(random: &mut Random, ssrc: u32) -> Vec<u8> {
         (60, 3..=20),
         (15, 21..=60),
         (6, 61..=300),
-        (7, longest - 1..=longest + 1),
+        (10, longest - 1..=longest + 1),
     ]);
     let mut packet = vec![0x80 | random.byte() & 0x3f];
     packet.extend(random.bytes(3));
@@ -61,7 +61,7 @@ fn payload_length(random: &mut Random, header: usize) -> usize {
         (45, 1..=48),
         (25, 49..=200),
         (9, 201..=1300),
-        (5, edge..=edge + 4),
+        (7, edge..=edge + 4),
         (1, edge..=edge + 500),
     ])
 }

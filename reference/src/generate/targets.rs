@@ -1,16 +1,21 @@
 //! Which number or index a packet gets: mostly the next, often one at a limit of the rules.
 
-use super::set_ups;
-use crate::index::{self, MAX_CONTROL_INDEX};
+use super::{carried, set_ups};
+use crate::index::{self, MAX_CONTROL_INDEX, MAX_MEDIA_INDEX};
 use crate::random::Random;
 use crate::replay::WINDOW_LENGTH;
+use crate::settings::Integrity;
 
 /// Half the sequence numbers.
 const HALF: i64 = 1 << 15;
 const WINDOW: i64 = WINDOW_LENGTH as i64;
 
 /// A sender's next number after its last index.
-pub fn next_number(random: &mut Random, last: u64) -> u16 {
+pub fn next_number(random: &mut Random, last: u64, integrity: Integrity) -> u16 {
+    let (weight, to_carrying) = match integrity {
+        Integrity::HmacSha1 => (0, 0),
+        Integrity::Rccm2 { rate } => (25, carried::step(random, last, rate)),
+    };
     let few = random.within(2..=5) as u16;
     let many = random.within(6..=32_766) as u16;
     let behind = random.within(32_769..=65_535) as u16;
@@ -20,6 +25,7 @@ pub fn next_number(random: &mut Random, last: u64) -> u16 {
         (15, few),
         (5, many),
         (4, to_rollover),
+        (weight, to_carrying),
         (4, 32_767),
         (4, 32_768),
         (4, 0),
@@ -42,8 +48,10 @@ pub fn next_media(random: &mut Random, highest: u64) -> i64 {
     let to_rollover = 2 * HALF - highest % (2 * HALF) - 3 + random.within(0..=6) as i64;
     let anywhere = random.within(0..=140_000) as i64 - 70_000;
     let near = near(random);
+    let to_end = MAX_MEDIA_INDEX as i64 + 1 - highest;
     let offset = random.weighted([
         (80, near),
+        (12 * u64::from(to_end <= HALF), to_end),
         (2, HALF - 1),
         (2, HALF),
         (2, 1 - HALF),

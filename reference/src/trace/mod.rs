@@ -3,6 +3,9 @@
 //! A record is op (1 byte), length (2) and body. An answer is op (1), refusal number or 0 (1),
 //! index (8), length (2), size of the outgoing buffer (2) and the whole buffer. One trace has one
 //! sender and one receiver, both closed until they are set up.
+//!
+//! The body of a set-up ends in settings, each an id (1), a length (1) and a value. Id 1 is the
+//! rate of RCCm2 (2 bytes), and its presence selects that transform.
 
 mod answer;
 mod record;
@@ -10,7 +13,8 @@ mod request;
 
 pub use answer::{Answer, FINISHED, MISFIT};
 pub use record::{Record, Records, HEADER_LENGTH};
-pub use request::{set_up_body, start_fields, Request, MAX_BODY_LENGTH, MAX_ROOM};
+pub use request::{receiver_body, sender_body, setting};
+pub use request::{Request, MAX_BODY_LENGTH, MAX_ROOM, RATE_ID};
 
 use crate::context::{self, Receiver, Sender};
 use crate::refusal::Refusal;

@@ -2,7 +2,7 @@
 #![allow(dead_code)]
 
 use reference::context::{Receiver, Sender};
-use reference::settings::{SetUp, Start};
+use reference::settings::{Integrity, SetUp, Start};
 
 /// Bytes from hexadecimal digits.
 pub fn bytes(hex: &str) -> Vec<u8> {
@@ -26,7 +26,13 @@ pub fn set_up() -> SetUp {
         master_key: bytes(MASTER_KEY),
         master_salt: bytes(MASTER_SALT),
         mki: Vec::new(),
+        integrity: Integrity::HmacSha1,
     }
+}
+
+/// The same under RCCm2, whose tag has 14 bytes.
+pub fn set_up_rccm2(rate: u16) -> SetUp {
+    SetUp { tag_length: 14, integrity: Integrity::Rccm2 { rate }, ..set_up() }
 }
 
 pub fn sender(values: &SetUp) -> Sender {

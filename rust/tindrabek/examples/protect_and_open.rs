@@ -1,6 +1,6 @@
 //! Protects the packets of a small stream and opens them as a receiver might get them: damaged, twice, late, and across a rollover.
 //! It writes what happened, in the words of `examples/c/protect_and_open.c`.
-use tindrabek::{Cipher, Packet, Receiver, Refusal, Sender, SetUp, MAX_RESULT_LEN};
+use tindrabek::{Packet, Profile, Receiver, Refusal, Sender, SetUp, MAX_RESULT_LEN};
 
 const SSRC: u32 = 0x0a0b0c0d;
 
@@ -90,11 +90,11 @@ fn receive_all(receiver: &mut Receiver, sent: &[Vec<u8>], report: &[u8]) {
 
 fn main() -> Result<(), Refusal> {
     let (key, salt) = ([0x2a; 16], [0x17; 14]);
-    let set_up =
-        SetUp { ssrc: SSRC, key: &key, salt: &salt, mki: &[1], tag_len: 10, cipher: Cipher::Aes };
+    let profile = Profile::default();
+    let set_up = SetUp { ssrc: SSRC, key: &key, salt: &salt, mki: &[1], profile };
     let (sent, report) = send_all(&mut Sender::set_up(&set_up)?);
     receive_all(&mut Receiver::set_up(&set_up, 0, None)?, &sent, &report);
-    match Sender::set_up(&SetUp { tag_len: 5, ..set_up }) {
+    match Sender::set_up(&SetUp { profile: Profile { tag_len: 5, ..profile }, ..set_up }) {
         Ok(_) => println!("set-up:   a tag of 5 bytes: taken"),
         Err(refusal) => println!("set-up:   a tag of 5 bytes: refused as {refusal}"),
     }

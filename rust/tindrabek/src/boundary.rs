@@ -18,12 +18,20 @@ pub struct Keys {
 
 #[repr(C)]
 #[derive(Clone, Copy, PartialEq, Eq)]
-pub struct Session {
+pub struct Profile {
     pub cipher: u32,
-    pub ssrc: u32,
+    pub integrity: u32,
+    pub rate: u16,
     pub tag_len: usize,
-    pub mki_len: usize,
+}
+
+#[repr(C)]
+#[derive(Clone, Copy, PartialEq, Eq)]
+pub struct Session {
+    pub profile: Profile,
+    pub ssrc: u32,
     mki: [u8; 4],
+    pub mki_len: usize,
     media: Keys,
     control: Keys,
 }
@@ -83,32 +91,37 @@ const _: () = {
             && size_of::<Keys>() == 232
     );
     assert!(
-        offset_of!(Session, ssrc) == 4
-            && offset_of!(Session, tag_len) == 8
-            && offset_of!(Session, mki_len) == 16
+        offset_of!(Profile, integrity) == 4
+            && offset_of!(Profile, rate) == 8
+            && offset_of!(Profile, tag_len) == 16
+            && size_of::<Profile>() == 24
     );
     assert!(
-        offset_of!(Session, mki) == 24
-            && offset_of!(Session, media) == 28
-            && offset_of!(Session, control) == 260
-            && size_of::<Session>() == 496
+        offset_of!(Session, ssrc) == 24
+            && offset_of!(Session, mki) == 28
+            && offset_of!(Session, mki_len) == 32
     );
-    assert!(offset_of!(Sender, has_last) == 496 && offset_of!(Sender, last_index) == 504);
-    assert!(offset_of!(Sender, control_sent) == 512 && size_of::<Sender>() == 520);
+    assert!(
+        offset_of!(Session, media) == 40
+            && offset_of!(Session, control) == 272
+            && size_of::<Session>() == 504
+    );
+    assert!(offset_of!(Sender, has_last) == 504 && offset_of!(Sender, last_index) == 512);
+    assert!(offset_of!(Sender, control_sent) == 520 && size_of::<Sender>() == 528);
     assert!(
         offset_of!(Window, highest) == 8
             && offset_of!(Window, bits) == 16
             && size_of::<Window>() == 24
     );
-    assert!(offset_of!(Receiver, rollover) == 496 && offset_of!(Receiver, media) == 504);
-    assert!(offset_of!(Receiver, control) == 528 && size_of::<Receiver>() == 552);
+    assert!(offset_of!(Receiver, rollover) == 504 && offset_of!(Receiver, media) == 512);
+    assert!(offset_of!(Receiver, control) == 536 && size_of::<Receiver>() == 560);
     assert!(
         offset_of!(Answer, len) == 8
             && offset_of!(Answer, index) == 16
             && size_of::<Answer>() == 24
     );
-    assert!(offset_of!(SenderSetUp, context) == 8 && size_of::<SenderSetUp>() == 528);
-    assert!(offset_of!(ReceiverSetUp, context) == 8 && size_of::<ReceiverSetUp>() == 560);
+    assert!(offset_of!(SenderSetUp, context) == 8 && size_of::<SenderSetUp>() == 536);
+    assert!(offset_of!(ReceiverSetUp, context) == 8 && size_of::<ReceiverSetUp>() == 568);
 };
 
 extern "C" {
@@ -120,8 +133,7 @@ extern "C" {
         salt_len: usize,
         mki: *const u8,
         mki_len: usize,
-        tag_len: usize,
-        cipher: u32,
+        profile: Profile,
     ) -> SenderSetUp;
     pub fn tindrabek_receiver_set_up(
         ssrc: u32,
@@ -131,8 +143,7 @@ extern "C" {
         salt_len: usize,
         mki: *const u8,
         mki_len: usize,
-        tag_len: usize,
-        cipher: u32,
+        profile: Profile,
         rollover: u32,
         known: u32,
         number: u16,

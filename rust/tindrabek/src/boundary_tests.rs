@@ -2,10 +2,10 @@
 //! that a refused call leaves every field as it was, and that a dropped context is cleared.
 use crate::boundary::{
     tindrabek_receive_control, tindrabek_receive_media, tindrabek_receiver_set_up,
-    tindrabek_send_control, tindrabek_send_media, tindrabek_sender_set_up,
+    tindrabek_send_control, tindrabek_send_media, tindrabek_sender_set_up, Profile as PlainProfile,
     Receiver as PlainReceiver, ReceiverSetUp, Sender as PlainSender, SenderSetUp,
 };
-use crate::{Cipher, Receiver, Refusal, Sender, SetUp};
+use crate::{Profile, Receiver, Refusal, Sender, SetUp, RCC_TAG_LEN};
 use core::mem::{size_of, MaybeUninit};
 
 const KEY: [u8; 16] = [7; 16];
@@ -13,7 +13,7 @@ const SALT: [u8; 14] = [9; 14];
 const SSRC: u32 = 0x01020304;
 
 fn set_up() -> SetUp<'static> {
-    SetUp { ssrc: SSRC, key: &KEY, salt: &SALT, mki: &[5, 6], tag_len: 10, cipher: Cipher::Aes }
+    SetUp { ssrc: SSRC, key: &KEY, salt: &SALT, mki: &[5, 6], profile: Profile::default() }
 }
 
 fn rtp(number: u16) -> Vec<u8> {
@@ -78,15 +78,26 @@ fn packets_after_many_rollovers() {
     }
 }
 
-// Each change makes a value that is refused as SETUP: a length off the list, a mark beyond its bound, or a number that no enum has.
+// Puts RFC 4771's transform into a profile.
+fn carry(profile: &mut PlainProfile, rate: u16, tag_len: usize) {
+    *profile = PlainProfile { integrity: 1, rate, tag_len, ..*profile };
+}
+
+// Each change makes a value that is refused as SETUP: a profile or length off the list, a mark beyond its bound, or a number that no enum
+// has.
 #[test]
 fn senders_out_of_bounds_are_refused_and_left_alone() {
-    let changes: [fn(&mut PlainSender); 9] = [
-        |s| s.session.cipher = 2,
-        |s| s.session.cipher = u32::MAX,
+    let changes: [fn(&mut PlainSender); 14] = [
+        |s| s.session.profile.cipher = 2,
+        |s| s.session.profile.cipher = u32::MAX,
+        |s| s.session.profile.integrity = 2,
+        |s| s.session.profile.integrity = u32::MAX,
         |s| s.has_last = 2,
-        |s| s.session.tag_len = 0,
-        |s| s.session.tag_len = usize::MAX,
+        |s| s.session.profile.tag_len = 0,
+        |s| s.session.profile.tag_len = RCC_TAG_LEN,
+        |s| s.session.profile.tag_len = usize::MAX,
+        |s| carry(&mut s.session.profile, 0, RCC_TAG_LEN),
+        |s| carry(&mut s.session.profile, 1, 10),
         |s| s.session.mki_len = 5,
         |s| s.session.mki_len = usize::MAX,
         |s| (s.has_last, s.last_index) = (1, 1 << 48),
@@ -105,11 +116,15 @@ fn senders_out_of_bounds_are_refused_and_left_alone() {
 
 #[test]
 fn receivers_out_of_bounds_are_refused_and_left_alone() {
-    let changes: [fn(&mut PlainReceiver); 9] = [
-        |r| r.session.cipher = 2,
+    let changes: [fn(&mut PlainReceiver); 13] = [
+        |r| r.session.profile.cipher = 2,
+        |r| r.session.profile.integrity = 2,
         |r| r.media.has_highest = 2,
         |r| r.control.has_highest = u32::MAX,
-        |r| r.session.tag_len = 9,
+        |r| r.session.profile.tag_len = 9,
+        |r| r.session.profile.tag_len = RCC_TAG_LEN,
+        |r| carry(&mut r.session.profile, 0, RCC_TAG_LEN),
+        |r| carry(&mut r.session.profile, 1, 10),
         |r| r.session.mki_len = 5,
         |r| (r.media.has_highest, r.media.highest) = (1, 1 << 48),
         |r| (r.media.has_highest, r.media.highest) = (1, u64::MAX),
@@ -130,23 +145,25 @@ fn receivers_out_of_bounds_are_refused_and_left_alone() {
     }
 }
 
-// What a mark says of a field that it makes void is not looked at, and a refused call does not touch it either.
+// A field that another makes void, an index or a rate, is not looked at, and a refused call does not touch it either.
 #[test]
-fn a_senders_void_index_is_not_looked_at() {
+fn a_senders_void_fields_are_not_looked_at() {
     let mut s = sender();
     s.0.last_index = u64::MAX;
+    s.0.session.profile.rate = u16::MAX;
     let was = s.0;
     let mut out = [0; 100];
     assert_eq!(s.send_media(&rtp(5), &mut []), Err(Refusal::Room));
     assert!(s.0 == was);
     assert_eq!(s.send_media(&rtp(5), &mut out).unwrap().index, 5);
-    assert_eq!((s.0.has_last, s.0.last_index), (1, 5));
+    assert_eq!((s.0.has_last, s.0.last_index, s.0.session.profile.rate), (1, 5, 0));
 }
 
 #[test]
-fn a_receivers_void_index_is_not_looked_at() {
+fn a_receivers_void_fields_are_not_looked_at() {
     let (mut s, mut r) = (sender(), receiver());
     (r.0.media.highest, r.0.control.highest) = (u64::MAX, u64::MAX);
+    r.0.session.profile.rate = u16::MAX;
     let was = r.0;
     let (mut protected, mut out) = ([0; 100], [0; 100]);
     let sent = s.send_media(&rtp(5), &mut protected).unwrap();
@@ -154,47 +171,73 @@ fn a_receivers_void_index_is_not_looked_at() {
     assert!(r.0 == was);
     assert_eq!(r.receive_media(&protected[..sent.len], &mut out).unwrap().index, 5);
     assert_eq!((r.0.media.has_highest, r.0.media.highest), (1, 5));
+    assert_eq!(r.0.session.profile.rate, 0);
     let sent = s.send_control(&RTCP, &mut protected).unwrap();
     assert_eq!(r.receive_control(&protected[..sent.len], &mut out).unwrap().index, 0);
     assert_eq!((r.0.control.has_highest, r.0.control.highest), (1, 0));
 }
 
-fn plain_sender(cipher: u32) -> SenderSetUp {
-    let (key, salt) = (KEY.as_ptr(), SALT.as_ptr());
-    // SAFETY: each pointer goes with the length of its array, the null one with 0.
-    unsafe { tindrabek_sender_set_up(SSRC, key, 16, salt, 14, core::ptr::null(), 0, 10, cipher) }
+// A profile with these numbers, whose tag is on the list.
+fn numbered(cipher: u32, integrity: u32) -> PlainProfile {
+    let tag_len = if integrity == 1 { RCC_TAG_LEN } else { 10 };
+    PlainProfile { cipher, integrity, rate: 300, tag_len }
 }
 
-fn plain_receiver(cipher: u32, known: u32) -> ReceiverSetUp {
+fn plain_sender(profile: PlainProfile) -> SenderSetUp {
+    let (key, salt) = (KEY.as_ptr(), SALT.as_ptr());
+    // SAFETY: each pointer goes with the length of its array, the null one with 0.
+    unsafe { tindrabek_sender_set_up(SSRC, key, 16, salt, 14, core::ptr::null(), 0, profile) }
+}
+
+fn plain_receiver(profile: PlainProfile, known: u32) -> ReceiverSetUp {
     let (key, salt, mki) = (KEY.as_ptr(), SALT.as_ptr(), core::ptr::null());
     // SAFETY: as for a sender.
-    unsafe { tindrabek_receiver_set_up(SSRC, key, 16, salt, 14, mki, 0, 10, cipher, 3, known, 4) }
+    unsafe { tindrabek_receiver_set_up(SSRC, key, 16, salt, 14, mki, 0, profile, 3, known, 4) }
 }
 
 #[test]
 fn unknown_numbers_at_a_senders_set_up() {
-    for (cipher, number) in [(0, 0), (1, 0), (2, 1), (u32::MAX, 1)] {
-        let made = plain_sender(cipher);
-        assert_eq!(made.number, number, "cipher {cipher}");
-        assert_eq!(made.number != 0, made.context == Sender::closed().0, "cipher {cipher}");
+    for (cipher, integrity, number) in
+        [(0, 0, 0), (1, 1, 0), (2, 0, 1), (u32::MAX, 1, 1), (1, 2, 1), (0, u32::MAX, 1)]
+    {
+        let made = plain_sender(numbered(cipher, integrity));
+        assert_eq!(made.number, number, "cipher {cipher}, integrity {integrity}");
+        assert_eq!(made.number != 0, made.context == Sender::closed().0);
     }
 }
 
 #[test]
 fn unknown_numbers_at_a_receivers_set_up() {
-    for (cipher, known, number) in
-        [(0, 0, 0), (1, 1, 0), (2, 0, 1), (u32::MAX, 1, 1), (1, 2, 1), (0, u32::MAX, 1)]
-    {
-        let made = plain_receiver(cipher, known);
-        assert_eq!(made.number, number, "cipher {cipher}, known {known}");
+    for (cipher, integrity, known, number) in [
+        (0, 0, 0, 0),
+        (1, 1, 1, 0),
+        (2, 0, 0, 1),
+        (u32::MAX, 1, 1, 1),
+        (1, 2, 0, 1),
+        (0, u32::MAX, 1, 1),
+        (1, 1, 2, 1),
+        (0, 0, u32::MAX, 1),
+    ] {
+        let made = plain_receiver(numbered(cipher, integrity), known);
+        assert_eq!(made.number, number, "cipher {cipher}, integrity {integrity}, known {known}");
         assert_eq!(made.number != 0, made.context == Receiver::closed().0);
+    }
+}
+
+// All of it, but for a rate that is not looked at.
+#[test]
+fn a_context_holds_the_profile_of_its_set_up() {
+    for (given, rate) in [(numbered(1, 1), 300), (numbered(0, 0), 0)] {
+        let held = PlainProfile { rate, ..given };
+        assert!(plain_sender(given).context.session.profile == held);
+        assert!(plain_receiver(given, 1).context.session.profile == held);
     }
 }
 
 #[test]
 fn a_receiver_starts_where_its_set_up_says() {
     for (known, highest) in [(1, 3 * 65536 + 4), (0, 0)] {
-        let r = plain_receiver(1, known).context;
+        let r = plain_receiver(numbered(1, 0), known).context;
         assert_eq!((r.rollover, r.media.has_highest, r.media.highest), (3, known, highest));
     }
 }

@@ -1,14 +1,15 @@
-//! SRTP and SRTCP packet protection (RFC 3711) for one stream: safe Rust over a library that is proved to do what the RFC says.
+//! SRTP and SRTCP packet protection (RFC 3711, and RFC 4771's integrity transform) for one stream: safe Rust over a library that is proved
+//! to do what the RFCs say.
 //!
 //! A [`Sender`] protects the RTP and RTCP packets of one SSRC, a [`Receiver`] opens them. Each call reads one buffer and writes another. It
 //! answers a finished packet, [`Packet`], which stands at the start of the outgoing buffer, or a [`Refusal`], which changes nothing.
 //!
 //! ```
-//! use tindrabek::{Cipher, Receiver, Refusal, Sender, SetUp};
+//! use tindrabek::{Profile, Receiver, Refusal, Sender, SetUp};
 //!
 //! let key = [1u8; 16];
 //! let salt = [2u8; 14];
-//! let set_up = SetUp { ssrc: 0x0a0b0c0d, key: &key, salt: &salt, mki: &[], tag_len: 10, cipher: Cipher::Aes };
+//! let set_up = SetUp { ssrc: 0x0a0b0c0d, key: &key, salt: &salt, mki: &[], profile: Profile::default() };
 //! let mut sender = Sender::set_up(&set_up)?;
 //! let mut receiver = Receiver::set_up(&set_up, 0, None)?;
 //!
@@ -38,10 +39,13 @@ pub const KEY_LEN: usize = 16;
 pub const SALT_LEN: usize = 14;
 /// Bytes of the longest MKI.
 pub const MAX_MKI_LEN: usize = 4;
+/// Bytes of a media tag with [`Integrity::Rccm2`].
+pub const RCC_TAG_LEN: usize = 14;
 /// Bytes of the longest plain packet.
 pub const MAX_PACKET_LEN: usize = 2048;
-/// A buffer of so many bytes has room for every result: the longest packet, the index word of control, the longest MKI and a tag of 10.
-pub const MAX_RESULT_LEN: usize = MAX_PACKET_LEN + 4 + MAX_MKI_LEN + 10;
+/// A buffer of so many bytes has room for every result: the longest packet, the longest MKI, and the longest media tag, which is as long as
+/// control's index word and tag.
+pub const MAX_RESULT_LEN: usize = MAX_PACKET_LEN + MAX_MKI_LEN + RCC_TAG_LEN;
 
 /// Why a call refuses, in the order in which the reasons are looked at. A refused call changes neither context nor outgoing buffer.
 #[derive(Clone, Copy, PartialEq, Eq, Debug, Hash)]
@@ -136,6 +140,32 @@ pub enum Cipher {
     Aes,
 }
 
+/// What makes the tag of a media packet. A control packet always has HMAC-SHA1's.
+#[derive(Clone, Copy, PartialEq, Eq, Debug)]
+pub enum Integrity {
+    /// HMAC-SHA1, as in RFC 3711.
+    HmacSha1,
+    /// RFC 4771's transform in mode RCCm2: the tag of each packet whose sequence number is 0 modulo the rate, 1 to 65,535, carries the
+    /// rollover counter.
+    Rccm2 { rate: u16 },
+}
+
+/// What packets are protected with.
+#[derive(Clone, Copy, PartialEq, Eq, Debug)]
+pub struct Profile {
+    pub cipher: Cipher,
+    pub integrity: Integrity,
+    /// The length of the media tag: 4 or 10, with [`Integrity::Rccm2`] [`RCC_TAG_LEN`]. The control tag has 10 bytes.
+    pub tag_len: usize,
+}
+
+/// RFC 3711's default: AES-128 in counter mode, and HMAC-SHA1 with a tag of 10 bytes.
+impl Default for Profile {
+    fn default() -> Profile {
+        Profile { cipher: Cipher::Aes, integrity: Integrity::HmacSha1, tag_len: 10 }
+    }
+}
+
 /// What a sender and the receivers of its stream are set up with.
 #[derive(Clone, Copy)]
 pub struct SetUp<'a> {
@@ -146,9 +176,7 @@ pub struct SetUp<'a> {
     pub salt: &'a [u8],
     /// The master key identifier that packets carry: 0 to [`MAX_MKI_LEN`] bytes.
     pub mki: &'a [u8],
-    /// The length of the media tag, 4 or 10. The control tag has 10 bytes.
-    pub tag_len: usize,
-    pub cipher: Cipher,
+    pub profile: Profile,
 }
 
 /// A finished packet: it is the first `len` bytes of the outgoing buffer. The bytes behind it are as they were.
@@ -166,11 +194,16 @@ pub struct Sender(boundary::Sender);
 /// Opens the packets of one stream, and accepts none twice.
 pub struct Receiver(boundary::Receiver);
 
-fn number_of(cipher: Cipher) -> u32 {
-    match cipher {
+fn plain_profile(profile: Profile) -> boundary::Profile {
+    let cipher = match profile.cipher {
         Cipher::Null => 0,
         Cipher::Aes => 1,
-    }
+    };
+    let (integrity, rate) = match profile.integrity {
+        Integrity::HmacSha1 => (0, 0),
+        Integrity::Rccm2 { rate } => (1, rate),
+    };
+    boundary::Profile { cipher, integrity, rate, tag_len: profile.tag_len }
 }
 
 fn refusal_of(number: u32) -> Refusal {
@@ -197,8 +230,7 @@ impl Sender {
                 s.salt.len(),
                 s.mki.as_ptr(),
                 s.mki.len(),
-                s.tag_len,
-                number_of(s.cipher),
+                plain_profile(s.profile),
             )
         };
         match made.number {
@@ -244,6 +276,9 @@ impl Sender {
 
 impl Receiver {
     /// A receiver at a rollover counter and, if it is known, the last sequence number; or [`Refusal::Setup`].
+    ///
+    /// With [`Integrity::Rccm2`] the index of a packet that carries the rollover counter is read from it. So a receiver without a last
+    /// number may start at any rollover counter: where it is wrong, packets are [`Refusal::Forged`] up to the next one that carries it.
     pub fn set_up(s: &SetUp, rollover: u32, last: Option<u16>) -> Result<Receiver, Refusal> {
         // SAFETY: each pointer goes with the length of its slice.
         let made = unsafe {
@@ -255,8 +290,7 @@ impl Receiver {
                 s.salt.len(),
                 s.mki.as_ptr(),
                 s.mki.len(),
-                s.tag_len,
-                number_of(s.cipher),
+                plain_profile(s.profile),
                 rollover,
                 u32::from(last.is_some()),
                 last.unwrap_or(0),

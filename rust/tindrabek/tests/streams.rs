@@ -1,5 +1,8 @@
 //! Streams through the boundary: what is sent comes back, and each refusal is given where it should be.
-use tindrabek::{Cipher, Packet, Receiver, Refusal, Sender, SetUp, MAX_PACKET_LEN, MAX_RESULT_LEN};
+use tindrabek::{
+    Cipher, Integrity, Packet, Profile, Receiver, Refusal, Sender, SetUp, MAX_PACKET_LEN,
+    MAX_RESULT_LEN, RCC_TAG_LEN,
+};
 
 // The master key and master salt of RFC 3711, B.3.
 const KEY: [u8; 16] = [
@@ -10,7 +13,34 @@ const SALT: [u8; 14] =
 const SSRC: u32 = 0xcafebabe;
 
 fn plain_set_up() -> SetUp<'static> {
-    SetUp { ssrc: SSRC, key: &KEY, salt: &SALT, mki: &[], tag_len: 10, cipher: Cipher::Aes }
+    SetUp { ssrc: SSRC, key: &KEY, salt: &SALT, mki: &[], profile: Profile::default() }
+}
+
+fn with_tag(integrity: Integrity, tag_len: usize) -> SetUp<'static> {
+    SetUp { profile: Profile { integrity, tag_len, ..Profile::default() }, ..plain_set_up() }
+}
+
+// The tags of packets whose sequence number is 0 modulo the rate carry the rollover counter.
+fn carrying_set_up(rate: u16) -> SetUp<'static> {
+    with_tag(Integrity::Rccm2 { rate }, RCC_TAG_LEN)
+}
+
+// Each cipher with each integrity transform and tag of the list, and with each length of an MKI.
+fn every_set_up() -> Vec<SetUp<'static>> {
+    let mut set_ups = Vec::new();
+    for listed in [
+        with_tag(Integrity::HmacSha1, 4),
+        with_tag(Integrity::HmacSha1, 10),
+        carrying_set_up(1),
+        carrying_set_up(3),
+        carrying_set_up(u16::MAX),
+    ] {
+        for cipher in [Cipher::Aes, Cipher::Null] {
+            let profile = Profile { cipher, ..listed.profile };
+            set_ups.extend((0..=4).map(|n| SetUp { mki: &[1, 2, 3, 4][..n], profile, ..listed }));
+        }
+    }
+    set_ups
 }
 
 fn hex(digits: &str) -> Vec<u8> {
@@ -102,56 +132,50 @@ fn published_control_packet() {
     assert_eq!(opened_control(&mut receiver, &protected), Ok((packet, 0)));
 }
 
+// The published packet with a tag that carries its rollover counter, 0, and with one that does not: 0x1234 is 0 modulo 4, and 4 modulo 8.
+#[test]
+fn published_media_packet_under_rccm2() {
+    let packet = rtp(0x1234, &[0xab; 16]);
+    let ciphered = "800f1234decafbadcafebabe4e55dc4ce79978d88ca4d215949d2402";
+    let mac = "b78d6acc99ea179b8dbb";
+    for (rate, tag_front) in [(4, format!("00000000{mac}")), (8, mac.to_string())] {
+        let (mut sender, mut receiver) = pair(&carrying_set_up(rate));
+        let (protected, index) = media(&mut sender, &packet).unwrap();
+        let front = hex(&format!("{ciphered}{tag_front}"));
+        assert_eq!((index, protected.len()), (0x1234, packet.len() + RCC_TAG_LEN));
+        assert_eq!(protected[..front.len()], front, "rate {rate}");
+        assert_eq!(opened(&mut receiver, &protected), Ok((packet.clone(), 0x1234)));
+    }
+}
+
 #[test]
 fn media_round_trips_under_every_set_up() {
-    for cipher in [Cipher::Aes, Cipher::Null] {
-        for tag_len in [4, 10] {
-            for mki_len in 0..=4 {
-                let (mut sender, mut receiver) = pair(&SetUp {
-                    mki: &[1, 2, 3, 4][..mki_len],
-                    tag_len,
-                    cipher,
-                    ..plain_set_up()
-                });
-                for (at, len) in [0, 1, 15, 16, 17, 1000, 2036].into_iter().enumerate() {
-                    let packet = rtp(at as u16, &vec![at as u8; len]);
-                    let (protected, index) = media(&mut sender, &packet).unwrap();
-                    assert_eq!(
-                        (protected.len(), index),
-                        (packet.len() + mki_len + tag_len, at as u64)
-                    );
-                    assert_eq!(
-                        protected[12..12 + len] == packet[12..],
-                        len == 0 || cipher == Cipher::Null
-                    );
-                    assert_eq!(opened(&mut receiver, &protected), Ok((packet, index)));
-                }
-            }
+    for set_up in every_set_up() {
+        let (mut sender, mut receiver) = pair(&set_up);
+        let trailer = set_up.mki.len() + set_up.profile.tag_len;
+        for (at, len) in [0, 1, 15, 16, 17, 1000, 2036].into_iter().enumerate() {
+            let packet = rtp(at as u16, &vec![at as u8; len]);
+            let (protected, index) = media(&mut sender, &packet).unwrap();
+            assert_eq!((protected.len(), index), (packet.len() + trailer, at as u64));
+            assert_eq!(
+                protected[12..12 + len] == packet[12..],
+                len == 0 || set_up.profile.cipher == Cipher::Null
+            );
+            assert_eq!(opened(&mut receiver, &protected), Ok((packet, index)));
         }
     }
 }
 
 #[test]
 fn control_round_trips_under_every_set_up() {
-    for cipher in [Cipher::Aes, Cipher::Null] {
-        for tag_len in [4, 10] {
-            for mki_len in 0..=4 {
-                let (mut sender, mut receiver) = pair(&SetUp {
-                    mki: &[1, 2, 3, 4][..mki_len],
-                    tag_len,
-                    cipher,
-                    ..plain_set_up()
-                });
-                for (at, len) in [0, 4, 16, 1000, 2040].into_iter().enumerate() {
-                    let packet = rtcp(&vec![at as u8; len]);
-                    let (protected, index) = control(&mut sender, &packet).unwrap();
-                    assert_eq!(
-                        (protected.len(), index),
-                        (packet.len() + 4 + mki_len + 10, at as u64)
-                    );
-                    assert_eq!(opened_control(&mut receiver, &protected), Ok((packet, index)));
-                }
-            }
+    for set_up in every_set_up() {
+        let (mut sender, mut receiver) = pair(&set_up);
+        let trailer = 4 + set_up.mki.len() + 10;
+        for (at, len) in [0, 4, 16, 1000, 2040].into_iter().enumerate() {
+            let packet = rtcp(&vec![at as u8; len]);
+            let (protected, index) = control(&mut sender, &packet).unwrap();
+            assert_eq!((protected.len(), index), (packet.len() + trailer, at as u64));
+            assert_eq!(opened_control(&mut receiver, &protected), Ok((packet, index)));
         }
     }
 }
@@ -251,6 +275,41 @@ fn a_receiver_joins_at_a_rollover_counter() {
     );
 }
 
+// A receiver that starts at a wrong rollover counter, and with no last number, reads the right one from the first packet that carries it.
+#[test]
+fn a_late_joiner_catches_up_at_a_packet_that_carries_the_counter() {
+    let set_up = carrying_set_up(4);
+    let mut sender = Sender::set_up(&set_up).unwrap();
+    let mut sent = |number| media(&mut sender, &rtp(number, b"x")).unwrap().0;
+    for before_the_rollover in [0x7000, 0xe000] {
+        sent(before_the_rollover);
+    }
+    let [one, three, four, five] = [0x4001, 0x4003, 0x4004, 0x4005].map(&mut sent);
+    for rollover in [0, 2, u32::MAX] {
+        let mut receiver = Receiver::set_up(&set_up, rollover, None).unwrap();
+        assert_eq!(opened(&mut receiver, &one), Err(Refusal::Forged));
+        assert_eq!(opened(&mut receiver, &three), Err(Refusal::Forged));
+        for (packet, number) in [(&four, 0x4004), (&five, 0x4005), (&three, 0x4003)] {
+            let index = 0x10000 + u64::from(number);
+            assert_eq!(opened(&mut receiver, packet), Ok((rtp(number, b"x"), index)));
+        }
+        assert_eq!(opened(&mut receiver, &four), Err(Refusal::Repeat));
+    }
+}
+
+// The carried counter is that of the index, which goes into HMAC-SHA1: a wrong one makes the tag wrong.
+#[test]
+fn a_forged_counter_is_refused_and_does_not_move_the_receiver() {
+    let (mut sender, mut receiver) = pair(&carrying_set_up(1));
+    let (good, _) = media(&mut sender, &rtp(9, b"payload")).unwrap();
+    for at in good.len() - RCC_TAG_LEN..good.len() {
+        let mut forged = good.clone();
+        forged[at] ^= 1;
+        assert_eq!(opened(&mut receiver, &forged), Err(Refusal::Forged), "byte {at}");
+    }
+    assert_eq!(opened(&mut receiver, &good), Ok((rtp(9, b"payload"), 9)));
+}
+
 // ---- refusals
 
 #[test]
@@ -263,9 +322,13 @@ fn set_ups_off_the_list_are_refused() {
         SetUp { salt: &SALT[..13], ..plain_set_up() },
         SetUp { salt: &long[..15], ..plain_set_up() },
         SetUp { mki: &long[..5], ..plain_set_up() },
-        SetUp { tag_len: 0, ..plain_set_up() },
-        SetUp { tag_len: 9, ..plain_set_up() },
-        SetUp { tag_len: usize::MAX, ..plain_set_up() },
+        with_tag(Integrity::HmacSha1, 0),
+        with_tag(Integrity::HmacSha1, 9),
+        with_tag(Integrity::HmacSha1, RCC_TAG_LEN),
+        with_tag(Integrity::HmacSha1, usize::MAX),
+        with_tag(Integrity::Rccm2 { rate: 1 }, 4),
+        with_tag(Integrity::Rccm2 { rate: 1 }, 10),
+        carrying_set_up(0),
     ] {
         assert_eq!(Sender::set_up(&bad).err(), Some(Refusal::Setup));
         assert_eq!(Receiver::set_up(&bad, 0, Some(1)).err(), Some(Refusal::Setup));

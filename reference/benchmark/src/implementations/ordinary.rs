@@ -2,7 +2,7 @@
 
 use super::{Answer, Link, Settings, MASTER_KEY, MASTER_SALT, SSRC};
 use reference::context::{Receiver, Sender};
-use reference::settings::SetUp;
+use reference::settings::{Integrity, SetUp};
 
 struct Ordinary {
     sender: Sender,
@@ -18,6 +18,7 @@ pub fn set_up(settings: &Settings) -> Box<dyn Link> {
         master_key: MASTER_KEY.to_vec(),
         master_salt: MASTER_SALT.to_vec(),
         mki: settings.mki.to_vec(),
+        integrity: Integrity::HmacSha1,
     };
     let (sender, _) = Sender::set_up(&values);
     let (receiver, _) = Receiver::set_up(&values, settings.start);

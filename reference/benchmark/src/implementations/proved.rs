@@ -2,7 +2,7 @@
 
 use super::{Answer, Link, Settings, MASTER_KEY, MASTER_SALT, SSRC};
 use reference::refusal::Refusal;
-use tindrabek::{Cipher, Packet, Receiver, Sender, SetUp};
+use tindrabek::{Packet, Profile, Receiver, Sender, SetUp};
 
 struct Proved {
     sender: Sender,
@@ -16,8 +16,7 @@ pub fn set_up(settings: &Settings) -> Box<dyn Link> {
         key: &MASTER_KEY,
         salt: &MASTER_SALT,
         mki: settings.mki,
-        tag_len: settings.tag_length,
-        cipher: Cipher::Aes,
+        profile: Profile { tag_len: settings.tag_length, ..Profile::default() },
     };
     let start = settings.start;
     let receiver = Receiver::set_up(&values, start.rollover_count, start.last_number);

@@ -29,17 +29,21 @@ array-share-prefix-tag : tie.Need-array-share-prefix-tag
 array-share-prefix-tag c = search needs
 
 slice-aggregate-finish : tie.Need-slice-aggregate-finish
-slice-aggregate-finish c = simp length-take (omega (arith, c .before .before .before .before .before .before .before .before .before .before .before .before .before .pre))
+slice-aggregate-finish c = simp length-take (omega (arith, c .before .before .before .before .before .before .before .before .before .before .before .before .before .before .pre))
 
 finish-requires : tie.Need-finish-requires
-finish-requires c κs = simp length-take (omega (arith, c .before .before .before .before .before .before .before .before .before .before .before .before .before .before .pre))
+finish-requires c κs = simp length-take (omega (arith, c .before .before .before .before .before .before .before .before .before .before .before .before .before .before .before .pre))
 
 same-length : tie.Need-same-length
 same-length c = search needs
 
 returns : tie.Need-returns
-returns c = let s = c .before .before .before .before .before .before .before .before .before .before .before .before .before .before .before .before .before in
-    media-written (s .args .self) _ _ _ _ _ _ _ (mki-long s) (s .pre .1 .1 .0 .0) (omega (arith, s .pre .1 .1 .0)) (c .before .before .before .before .before .before .before .before .before .before .before .cipher-media .ensures) (c .before .before .before .before .before .before .media-tag .ensures) (c .before .before .finish .ensures .1, c .before .before .finish .ensures .0)
+returns c =
+    let s = c .before .before .before .before .before .before .before .before .before .before .before .before .before .before .before .before .before .before in
+    media-written (s .args .self) _ _ _ _ _ _ _ (mki-long s) (s .pre .1 .1 .0 .0) (omega (arith, s .pre .1 .1 .0)) (omega (arith, s .pre .1 .1 .0))
+    (c .before .before .before .before .before .before .before .before .before .before .before .before .cipher-media .ensures)
+    (c .before .before .before .before .before .media-tag .ensures)
+    (c .before .before .finish .ensures .1, c .before .before .finish .ensures .0)
 
 pub protect-media-spec : {M : Type 1} → statement M
 protect-media-spec =

@@ -7,7 +7,7 @@ use borrow.Author.Tests.{not-false}
 use lib.ListN.{length}
 use denote.Ref.{now}
 use Rattle.srtp.specs.Contexts.{receiverListed}
-use Rattle.srtp.proofs.ReceiveMediaRows.{Media, media-setup, media-long, media-shape, media-trailer, front-short, media-address, media-index}
+use Rattle.srtp.proofs.ReceiveMediaRows.{Media, media-setup, media-long, media-shape, media-trailer, front-short, tag-long, media-address, media-index}
 use Rattle.srtp.proofs.ReceiverLaws.{receiver-listed, mki-start, tag-start, front-length}
 use Rattle.srtp.proofs.Receiver.judge_media.Statement.{statement}
 use Rattle.srtp.proofs.Receiver.judge_media.Tie as tie
@@ -36,10 +36,10 @@ returns : tie.Need-returns
 returns c = search media-setup
 
 add-trailer : tie.Need-add-trailer
-add-trailer c = let l = receiver-listed _ (listed-is (c .before .before)) in omega (arith, l .mki, l .tag)
+add-trailer c = let l = receiver-listed _ (listed-is (c .before .before)) in omega (arith, l .mki, l .most)
 
 add-if2 : tie.Need-add-if2
-add-if2 c = let l = receiver-listed _ (listed-is (c .before .before)) in omega (arith, l .mki, l .tag)
+add-if2 c = let l = receiver-listed _ (listed-is (c .before .before)) in omega (arith, l .mki, l .most)
 
 returns-2 : tie.Need-returns-2
 returns-2 c = let s = c .before .before .before .before .before .before in media-long (s .args .self) (now (s .args .packet)) (listed-is (c .before .before .before)) (four s) (s .args .room) (c .if2 .taken)
@@ -90,7 +90,11 @@ part-judge-media-index-end : tie.Need-part-judge-media-index-end
 part-judge-media-index-end c = search needs
 
 judge-media-index-requires : tie.Need-judge-media-index-requires
-judge-media-index-requires c κs = (front-short (read (c .before .before .before .before .before .before .before .before .before)) (c .before .before .before .before .before .before .before .header-len .given .1), receiver-listed _ (listed-is (c .before .before .before .before .before .before .before .before .before .before .before .before .before)) .tag)
+judge-media-index-requires c κs =
+    let r = read (c .before .before .before .before .before .before .before .before .before) in
+    let h = c .before .before .before .before .before .before .before .header-len .given .1 in
+    let l = receiver-listed _ (listed-is (c .before .before .before .before .before .before .before .before .before .before .before .before .before)) in
+    ((front-short r h, tag-long r h (l .least)), (l .least, l .most))
 
 returns-5 : tie.Need-returns-5
 returns-5 c = media-index (read (c .before .before .before .before .before .before .before .before .before .before)) (c .before .before .before .before .before .before .before .before .header-len .given .1) _ (c .before .before .before .before .before .judge-address .ensures) (c .before .before .before .enum-told2 .given .1) (c .judge-media-index .ensures)

@@ -17,7 +17,7 @@ returns c = receiver-refused _ _ (c .before .before .set-up-listed .ensures) _ _
 
 derived-requires : tie.Need-derived-requires
 derived-requires c κs = let a = c .before .before .before .before .before .args in
-    sizes (length (now (a .key))) (length (now (a .salt))) (length (now (a .mki))) (a .tag-len) _ (c .before .set-up-listed .ensures) (c .if1 .left)
+    sizes (length (now (a .key))) (length (now (a .salt))) (length (now (a .mki))) (a .profile) _ (c .before .set-up-listed .ensures) (c .if1 .left)
 
 start-highest-requires : tie.Need-start-highest-requires
 start-highest-requires c κs = search needs

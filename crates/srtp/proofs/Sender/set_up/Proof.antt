@@ -17,7 +17,7 @@ returns c = sender-refused _ _ (c .before .before .set-up-listed .ensures) (c .b
 
 derived-requires : tie.Need-derived-requires
 derived-requires c κs = let a = c .before .before .before .before .before .args in
-    sizes (length (now (a .key))) (length (now (a .salt))) (length (now (a .mki))) (a .tag-len) _ (c .before .set-up-listed .ensures) (c .if1 .left)
+    sizes (length (now (a .key))) (length (now (a .salt))) (length (now (a .mki))) (a .profile) _ (c .before .set-up-listed .ensures) (c .if1 .left)
 
 new-requires : tie.Need-new-requires
 new-requires c κs = search needs

@@ -3,8 +3,8 @@ use Rattle.srtp_c.proofs.Returns.{and-no, and-yes}
 use Rattle.srtp_c.proofs.Receiver.named.Statement.{statement}
 use Rattle.srtp_c.proofs.Receiver.named.Tie as tie
 
-two-cased-requires : tie.Need-two-cased-requires
-two-cased-requires c κs = search needs
+named-requires : tie.Need-named-requires
+named-requires c κs = search needs
 
 returns : tie.Need-returns
 returns c = search and-no
@@ -17,4 +17,4 @@ returns-2 c = search and-yes
 
 pub named-spec : {M : Type 1} → statement M
 named-spec =
-    tie.close (tie.spec two-cased-requires returns both-two-cased-requires returns-2)
+    tie.close (tie.spec named-requires returns both-two-cased-requires returns-2)

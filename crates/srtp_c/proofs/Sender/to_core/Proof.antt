@@ -3,8 +3,8 @@ use Rattle.srtp_c.proofs.Returns.{sender-closed, sender-of}
 use Rattle.srtp_c.proofs.Sender.to_core.Statement.{statement}
 use Rattle.srtp_c.proofs.Sender.to_core.Tie as tie
 
-both-two-cased-requires : tie.Need-both-two-cased-requires
-both-two-cased-requires c κs = search needs
+named-with-requires : tie.Need-named-with-requires
+named-with-requires c κs = search needs
 
 closed-requires : tie.Need-closed-requires
 closed-requires c κs = search needs
@@ -23,4 +23,4 @@ returns-2 c = search sender-of
 
 pub to-core-spec : {M : Type 1} → statement M
 to-core-spec =
-    tie.close (tie.spec both-two-cased-requires closed-requires returns to-core-requires last-of-requires returns-2)
+    tie.close (tie.spec named-with-requires closed-requires returns to-core-requires last-of-requires returns-2)

@@ -3,8 +3,8 @@ use Rattle.srtp_c.proofs.Returns.{receiver-unnamed, receiver-set-up}
 use Rattle.srtp_c.proofs.exports.tindrabek_receiver_set_up.Statement.{statement}
 use Rattle.srtp_c.proofs.exports.tindrabek_receiver_set_up.Tie as tie
 
-both-two-cased-requires : tie.Need-both-two-cased-requires
-both-two-cased-requires c κs = search needs
+named-with-requires : tie.Need-named-with-requires
+named-with-requires c κs = search needs
 
 number-of-requires : tie.Need-number-of-requires
 number-of-requires c κs = search needs
@@ -15,8 +15,8 @@ tindrabek-receiver-closed-requires c κs = search needs
 returns : tie.Need-returns
 returns c = search receiver-unnamed
 
-cipher-of-requires : tie.Need-cipher-of-requires
-cipher-of-requires c κs = search needs
+to-core-requires : tie.Need-to-core-requires
+to-core-requires c κs = search needs
 
 number-given-requires : tie.Need-number-given-requires
 number-given-requires c κs = search needs
@@ -35,4 +35,4 @@ returns-2 c = search receiver-set-up
 
 pub tindrabek-receiver-set-up-spec : {M : Type 1} → statement M
 tindrabek-receiver-set-up-spec =
-    tie.close (tie.spec both-two-cased-requires number-of-requires tindrabek-receiver-closed-requires returns cipher-of-requires number-given-requires set-up-requires set-up-number-requires from-core-requires returns-2)
+    tie.close (tie.spec named-with-requires number-of-requires tindrabek-receiver-closed-requires returns to-core-requires number-given-requires set-up-requires set-up-number-requires from-core-requires returns-2)

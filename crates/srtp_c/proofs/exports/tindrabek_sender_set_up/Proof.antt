@@ -3,8 +3,8 @@ use Rattle.srtp_c.proofs.Returns.{sender-unnamed, sender-set-up}
 use Rattle.srtp_c.proofs.exports.tindrabek_sender_set_up.Statement.{statement}
 use Rattle.srtp_c.proofs.exports.tindrabek_sender_set_up.Tie as tie
 
-two-cased-requires : tie.Need-two-cased-requires
-two-cased-requires c κs = search needs
+named-requires : tie.Need-named-requires
+named-requires c κs = search needs
 
 number-of-requires : tie.Need-number-of-requires
 number-of-requires c κs = search needs
@@ -15,8 +15,8 @@ tindrabek-sender-closed-requires c κs = search needs
 returns : tie.Need-returns
 returns c = search sender-unnamed
 
-cipher-of-requires : tie.Need-cipher-of-requires
-cipher-of-requires c κs = search needs
+to-core-requires : tie.Need-to-core-requires
+to-core-requires c κs = search needs
 
 set-up-requires : tie.Need-set-up-requires
 set-up-requires c κs = search needs
@@ -34,11 +34,11 @@ pub tindrabek-sender-set-up-spec : {M : Type 1} → statement M
 tindrabek-sender-set-up-spec =
     tie.close
     (tie.spec
-    two-cased-requires
+    named-requires
     number-of-requires
     tindrabek-sender-closed-requires
     returns
-    cipher-of-requires
+    to-core-requires
     set-up-requires
     set-up-number-requires
     from-core-requires

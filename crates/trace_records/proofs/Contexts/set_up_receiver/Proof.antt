@@ -6,8 +6,14 @@ use Rattle.trace_records.proofs.Contexts.set_up_receiver.Tie as tie
 layout-of-requires : tie.Need-layout-of-requires
 layout-of-requires c κs = search needs
 
-receiver-fits-requires : tie.Need-receiver-fits-requires
-receiver-fits-requires c κs = (search end-placed, search needs)
+receiver-settings-requires : tie.Need-receiver-settings-requires
+receiver-settings-requires c κs = (search end-placed, search needs)
+
+enum-known-integrity : tie.Need-enum-known-integrity
+enum-known-integrity c = search needs
+
+enum-told : tie.Need-enum-told
+enum-told c = search needs
 
 misfit-requires : tie.Need-misfit-requires
 misfit-requires c κs = search needs
@@ -28,7 +34,7 @@ load32-requires : tie.Need-load32-requires
 load32-requires c κs = search rollover-within
 
 receiver-of-requires : tie.Need-receiver-of-requires
-receiver-of-requires c κs = receiver-within _ _ (c .before .before .before .before .layout-of .ensures) _ (c .before .before .before .receiver-fits .ensures) (c .before .before .if1 .left)
+receiver-of-requires c κs = (search needs, search receiver-within)
 
 set-up-head-requires : tie.Need-set-up-head-requires
 set-up-head-requires c κs = search needs
@@ -41,14 +47,18 @@ same-length-2 c = search needs
 
 returns-2 : tie.Need-returns-2
 returns-2 c =
-    receiver-set _ _ _ _ _ _ _ (c .before .before .before .before .before .before .before .before .before .before .before .receiver-fits .ensures) (c .before .before .before .before .before .before .before .before .before .before .if1 .left) _ (c .before .before .before .before .before .before .before .before .before .before .before .before .layout-of .ensures) _ (c .before .before .before .before .before .before .before .before .load32 .ensures .0) _ (c .before .before .before .before .before .before .before .before .before .last-number .ensures) _ (c .before .before .before .before .before .before .before .receiver-of .ensures) _ (c .before .before .before .before .set-up-head .ensures .0) (c .before .before .without-buffer .ensures)
+    receiver-set _ _ _ _ _ _ _ _ (c .before .before .before .before .before .before .before .before .before .before .before .integrity .given .1) (c .before .before .before .before .before .before .before .before .before .before .before .before .before .receiver-settings .ensures) _ (c .before .before .before .before .before .before .before .before .before .before .before .before .before .before .layout-of .ensures) _
+    (c .before .before .before .before .before .before .before .before .load32 .ensures .0) _ (c .before .before .before .before .before .before .before .before .before .last-number .ensures) _ (c .before .before .before .before .before .before .before .receiver-of .ensures) _ (c .before .before .before .before .set-up-head .ensures .0)
+    (c .before .before .without-buffer .ensures)
 
 pub set-up-receiver-spec : {M : Type 1} → statement M
 set-up-receiver-spec =
     tie.close
     (tie.spec
     layout-of-requires
-    receiver-fits-requires
+    receiver-settings-requires
+    enum-known-integrity
+    enum-told
     misfit-requires
     same-length
     returns

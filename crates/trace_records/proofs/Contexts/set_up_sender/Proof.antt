@@ -6,8 +6,14 @@ use Rattle.trace_records.proofs.Contexts.set_up_sender.Tie as tie
 layout-of-requires : tie.Need-layout-of-requires
 layout-of-requires c κs = search needs
 
-sender-fits-requires : tie.Need-sender-fits-requires
-sender-fits-requires c κs = search end-placed
+sender-settings-requires : tie.Need-sender-settings-requires
+sender-settings-requires c κs = search end-placed
+
+enum-known-integrity : tie.Need-enum-known-integrity
+enum-known-integrity c = search needs
+
+enum-told : tie.Need-enum-told
+enum-told c = search needs
 
 misfit-requires : tie.Need-misfit-requires
 misfit-requires c κs = search needs
@@ -19,7 +25,7 @@ returns : tie.Need-returns
 returns c = search sender-misfit
 
 sender-of-requires : tie.Need-sender-of-requires
-sender-of-requires c κs = sender-within _ _ (c .before .before .layout-of .ensures) _ (c .before .sender-fits .ensures) (c .if1 .left)
+sender-of-requires c κs = (search needs, search sender-within)
 
 set-up-head-requires : tie.Need-set-up-head-requires
 set-up-head-requires c κs = search needs
@@ -38,7 +44,9 @@ set-up-sender-spec =
     tie.close
     (tie.spec
     layout-of-requires
-    sender-fits-requires
+    sender-settings-requires
+    enum-known-integrity
+    enum-told
     misfit-requires
     same-length
     returns

@@ -1,45 +1,27 @@
-use mathlib.Core.List.{List, _++_}
-use mathlib.Core.Path.{sym, ap, _∙_}
-use Prim.Native.Nat.{ℕ}
 use borrow.Author.Needs.{needs}
-use Rattle.octets.specs.BigEndian.{toBytes}
-use Rattle.octets.specs.Buffer.{overAt}
-use Rattle.sha1.specs.Hmac.{hmacWith}
-use Rattle.transforms.specs.Tag.{rolloverCounter, mediaTag}
-use Rattle.transforms.proofs.TagLaws.{whole-tag}
+use Rattle.transforms.proofs.RccLaws.{tag-carried, tag-plain}
 use Rattle.transforms.proofs.tag.media_tag.Statement.{statement}
 use Rattle.transforms.proofs.tag.media_tag.Tie as tie
 
-slice-aggregate-store32 : tie.Need-slice-aggregate-store32
-slice-aggregate-store32 c = search needs
+mac-requires : tie.Need-mac-requires
+mac-requires c κs = search needs
 
-cast-store32 : tie.Need-cast-store32
-cast-store32 c = search needs
+cast-number : tie.Need-cast-number
+cast-number c = search needs
 
-store32-requires : tie.Need-store32-requires
-store32-requires c κs = search needs
+carries-requires : tie.Need-carries-requires
+carries-requires c κs = search needs
 
-slice-aggregate-hmac : tie.Need-slice-aggregate-hmac
-slice-aggregate-hmac c = search needs
-
-hmac-requires : tie.Need-hmac-requires
-hmac-requires c κs = search needs
+with-counter-requires : tie.Need-with-counter-requires
+with-counter-requires c κs = search needs
 
 returns : tie.Need-returns
-unfolding mediaTag overAt
-returns c =
-    let x = c .before .before .before .before .before .before .before .args in
-    c .hmac .ensures
-    ∙ ap (λ (l : List ℕ). hmacWith (x .keys .tag) (x .authenticated .now ++ l)) (c .before .before .before .store32 .ensures)
-    ∙ sym (whole-tag (x .keys) (x .authenticated .now ++ toBytes 4 (rolloverCounter (x .index))))
+returns c = search tag-carried
+
+returns-2 : tie.Need-returns-2
+returns-2 c = search tag-plain
 
 pub media-tag-spec : {M : Type 1} → statement M
 media-tag-spec =
     tie.close
-    (tie.spec
-    slice-aggregate-store32
-    cast-store32
-    store32-requires
-    slice-aggregate-hmac
-    hmac-requires
-    returns)
+    (tie.spec mac-requires cast-number carries-requires with-counter-requires returns returns-2)

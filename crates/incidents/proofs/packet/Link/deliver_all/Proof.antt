@@ -13,6 +13,9 @@ abbrev μ-loop : tie.MeasureT-loop
 loop-holds : tie.Need-loop-holds Inv-loop μ-loop
 loop-holds c = search needs
 
+slice-aggregate-deliver : tie.Need-slice-aggregate-deliver Inv-loop μ-loop
+slice-aggregate-deliver c = search needs
+
 deliver-requires : tie.Need-deliver-requires Inv-loop μ-loop
 deliver-requires c κs = search needs
 
@@ -31,4 +34,13 @@ returns c = search needs
 pub deliver-all-spec : {M : Type 1} → statement M
 deliver-all-spec =
     tie.close
-    (tie.spec Inv-loop μ-loop loop-holds deliver-requires add-number loop-less loop-again returns)
+    (tie.spec
+    Inv-loop
+    μ-loop
+    loop-holds
+    slice-aggregate-deliver
+    deliver-requires
+    add-number
+    loop-less
+    loop-again
+    returns)

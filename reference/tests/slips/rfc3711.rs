@@ -1,117 +1,25 @@
-//! Slips that implementations make. Random traces must bring each of them to light: a
-//! comparison that no slip can fail would show nothing.
+//! Slips in RFC 3711 and in the link's rules.
 
-use reference::context::{Receiver, Sender};
-use reference::generate::make_trace;
+use super::done::{Done, Slip};
+use reference::context::Sender;
 use reference::index::{self, MAX_MEDIA_INDEX};
-use reference::layout::{ProtectedControl, ProtectedMedia, RtpHeader};
+use reference::layout::{ProtectedMedia, RtpHeader};
 use reference::refusal::Refusal;
-use reference::replay::ReplayList;
-use reference::session::Session;
-use reference::settings::{Cipher, Settings};
-use reference::trace::{Answer, Call, Contexts, Record, Records, Request, FINISHED, MISFIT};
+use reference::settings::Cipher;
+use reference::trace::Call::{ReceiveControl, ReceiveMedia, SendControl, SendMedia};
+use reference::trace::Call::{SetUpReceiver, SetUpSender};
+use reference::trace::{FINISHED, MISFIT};
 
-/// A call on a packet that the reference has answered. A slip changes the answer or the contexts
-/// that are left.
-struct Done<'a> {
-    call: Option<Call>,
-    room: usize,
-    packet: &'a [u8],
-    before: &'a Contexts,
-    after: &'a mut Contexts,
-    answer: &'a mut Answer,
-}
-
-impl Done<'_> {
-    fn finished(&self, call: Call) -> bool {
-        self.call == Some(call) && self.answer.outcome == FINISHED
-    }
-
-    fn refused(&self, call: Call, refusal: Refusal) -> bool {
-        self.call == Some(call) && self.answer.outcome == refusal.number()
-    }
-
-    fn settings(&self) -> Settings {
-        self.before.receiver.session.as_ref().unwrap().settings.clone()
-    }
-
-    /// The estimate of a received media packet's index.
-    fn estimate(&self) -> i128 {
-        let receiver = &self.before.receiver;
-        let number = RtpHeader::read(self.packet).unwrap().number;
-        index::estimate(receiver.media.highest, receiver.started_count, number)
-    }
-
-    fn distance(&self) -> i128 {
-        ahead_of(self.before.receiver.media.highest, self.estimate())
-    }
-
-    /// The parts of a received control packet that has the layout.
-    fn control(&self) -> ProtectedControl<'_> {
-        ProtectedControl::read(self.packet, &self.settings()).unwrap()
-    }
-
-    fn control_distance(&self) -> i128 {
-        ahead_of(self.before.receiver.control.highest, i128::from(self.control().index))
-    }
-
-    /// Refuses after all.
-    fn refuse(&mut self, refusal: Refusal) {
-        let buffer = vec![0xa5; self.room];
-        *self.answer = Answer::to_call(self.answer.op, Err(refusal), buffer);
-        *self.after = self.before.clone();
-    }
-
-    /// Opens the packet at an index after all, if its tag is right there.
-    fn open_at(&mut self, index: u64) {
-        *self.answer = self.answer_at(index);
-    }
-
-    fn has_good_tag(&self) -> bool {
-        self.answer_at(self.estimate() as u64).outcome == FINISHED
-    }
-
-    /// What a receiver with nothing accepted says to the packet at an index.
-    fn answer_at(&self, index: u64) -> Answer {
-        let mut receiver = Receiver {
-            started_count: index::rollover_count(index),
-            media: ReplayList::default(),
-            ..self.before.receiver.clone()
-        };
-        let mut buffer = vec![0xa5; self.room];
-        let answer = receiver.receive_media(self.packet, &mut buffer);
-        Answer::to_call(self.answer.op, answer, buffer)
-    }
-
-    /// What a receiver with nothing accepted says to the control packet.
-    fn control_answer(&self) -> Answer {
-        let control = ReplayList::default();
-        let mut receiver = Receiver { control, ..self.before.receiver.clone() };
-        let mut buffer = vec![0xa5; self.room];
-        let answer = receiver.receive_control(self.packet, &mut buffer);
-        Answer::to_call(self.answer.op, answer, buffer)
-    }
-}
-
-/// How far an index is ahead of H; 0 without one.
-fn ahead_of(highest: Option<u64>, index: i128) -> i128 {
-    highest.map_or(0, |highest| index - i128::from(highest))
-}
-
-type Slip = (&'static str, fn(&mut Done));
-
-use Call::{ReceiveControl, ReceiveMedia, SendControl, SendMedia, SetUpReceiver, SetUpSender};
-
-const SLIPS: &[Slip] = &[
+pub const SLIPS: &[Slip] = &[
     ("H moves before the tag is checked", |d| {
         if d.refused(ReceiveMedia, Refusal::Forged) {
-            let index = d.estimate() as u64;
+            let index = d.index() as u64;
             d.after.receiver.media.highest = d.after.receiver.media.highest.max(Some(index));
         }
     }),
     ("H is set from the first packet seen", |d| {
         if d.refused(ReceiveMedia, Refusal::Forged) && d.before.receiver.media.highest.is_none() {
-            d.after.receiver.media.highest = Some(d.estimate() as u64);
+            d.after.receiver.media.highest = Some(d.index() as u64);
         }
     }),
     ("the tag has H's rollover count", |d| {
@@ -129,22 +37,19 @@ const SLIPS: &[Slip] = &[
         }
     }),
     ("the tag covers the MKI", |d| {
-        if d.finished(SendMedia) {
-            let Session { settings, media, .. } = d.before.sender.session.as_ref().unwrap();
-            let count = index::rollover_count(d.answer.index).to_be_bytes();
-            let packet = &mut d.answer.buffer[..usize::from(d.answer.length)];
-            let (covered, tag) = packet.split_at_mut(packet.len() - settings.media_tag_length);
-            tag.copy_from_slice(&media.tag.mac(&[covered, &count])[..tag.len()]);
-        }
+        d.rewrite_tag(|sent| {
+            let covered = [sent.authenticated, &sent.session.settings.mki].concat();
+            Some(sent.tag_over(sent.is_carrier(), &[&covered, &sent.count()]))
+        })
     }),
     ("an index below zero is opened near 2^48", |d| {
-        if d.refused(ReceiveMedia, Refusal::Old) && d.estimate() < 0 {
-            d.open_at((d.estimate() + i128::from(MAX_MEDIA_INDEX) + 1) as u64);
+        if d.refused(ReceiveMedia, Refusal::Old) && d.index() < 0 {
+            d.open_at((d.index() + i128::from(MAX_MEDIA_INDEX) + 1) as u64);
         }
     }),
     ("an index above the last is opened near zero", |d| {
         if d.refused(ReceiveMedia, Refusal::Spent) {
-            d.open_at((d.estimate() - i128::from(MAX_MEDIA_INDEX) - 1) as u64);
+            d.open_at((d.index() - i128::from(MAX_MEDIA_INDEX) - 1) as u64);
         }
     }),
     ("the media salt is used for control", |d| {
@@ -154,7 +59,7 @@ const SLIPS: &[Slip] = &[
     }),
     ("the window spans 65", |d| {
         if d.refused(ReceiveMedia, Refusal::Old) && d.distance() == -64 {
-            d.open_at(d.estimate() as u64);
+            d.open_at(d.index() as u64);
         }
     }),
     ("the window spans 63", |d| {
@@ -211,7 +116,7 @@ const SLIPS: &[Slip] = &[
     }),
     ("a refused packet takes a media index", |d| {
         if d.refused(SendMedia, Refusal::Room) {
-            let number = RtpHeader::read(d.packet).unwrap().number;
+            let number = d.header().number;
             if let Ok(index) = index::next_sent(d.before.sender.last_index, number) {
                 d.after.sender.last_index = Some(index);
             }
@@ -283,14 +188,14 @@ const SLIPS: &[Slip] = &[
     }),
     ("ORDER before ROOM", |d| {
         if d.refused(SendMedia, Refusal::Room) {
-            let number = RtpHeader::read(d.packet).unwrap().number;
+            let number = d.header().number;
             if index::next_sent(d.before.sender.last_index, number).is_err() {
                 d.refuse(Refusal::Order);
             }
         }
     }),
     ("FORGED before OLD", |d| {
-        if d.refused(ReceiveMedia, Refusal::Old) && d.estimate() >= 0 && !d.has_good_tag() {
+        if d.refused(ReceiveMedia, Refusal::Old) && d.index() >= 0 && !d.has_good_tag() {
             d.refuse(Refusal::Forged);
         }
     }),
@@ -305,38 +210,3 @@ const SLIPS: &[Slip] = &[
         }
     }),
 ];
-
-/// Answers a record with a slip.
-fn slipped(contexts: &mut Contexts, record: &Record, slip: fn(&mut Done)) -> Answer {
-    let before = contexts.clone();
-    let mut answer = contexts.answer(record);
-    let (room, packet) = match Request::read(record) {
-        Some(Request::Packet { room, packet, .. }) => (room, packet),
-        _ => (0, &[][..]),
-    };
-    let call = Call::from_op(record.op);
-    slip(&mut Done { call, room, packet, before: &before, after: contexts, answer: &mut answer });
-    answer
-}
-
-/// How many records it takes until the answers differ.
-fn records_until_found(trace: &[u8], slip: fn(&mut Done)) -> Option<usize> {
-    let (mut right, mut wrong) = (Contexts::default(), Contexts::default());
-    Records::new(trace)
-        .position(|record| right.answer(&record) != slipped(&mut wrong, &record, slip))
-}
-
-#[test]
-fn every_slip_is_found() {
-    let trace = make_trace(11, 30_000);
-    for (name, slip) in SLIPS {
-        let found = records_until_found(&trace, *slip);
-        println!("{name}: {found:?}");
-        assert!(found.is_some(), "{name}");
-    }
-}
-
-#[test]
-fn no_slip_is_found_where_there_is_none() {
-    assert_eq!(records_until_found(&make_trace(11, 3000), |_| {}), None);
-}

@@ -1,7 +1,7 @@
 use borrow.Author.Needs.{needs}
 use Rattle.trace_records.proofs.SetUpReturns.{receiver-cut, receiver-known, receiver-fit}
-use Rattle.trace_records.proofs.setups.receiver_fits.Statement.{statement}
-use Rattle.trace_records.proofs.setups.receiver_fits.Tie as tie
+use Rattle.trace_records.proofs.setups.receiver_settings.Statement.{statement}
+use Rattle.trace_records.proofs.setups.receiver_settings.Tie as tie
 
 add-if1 : tie.Need-add-if1
 add-if1 c = search needs
@@ -18,17 +18,17 @@ shared-slice-read-if2 c = search needs
 returns-2 : tie.Need-returns-2
 returns-2 c = search receiver-known
 
-add-settings-fit : tie.Need-add-settings-fit
-add-settings-fit c = search needs
+add-settings-of : tie.Need-add-settings-of
+add-settings-of c = search needs
 
-settings-fit-requires : tie.Need-settings-fit-requires
-settings-fit-requires c κs = search needs
+settings-of-requires : tie.Need-settings-of-requires
+settings-of-requires c κs = search needs
 
 returns-3 : tie.Need-returns-3
 returns-3 c = search receiver-fit
 
-pub receiver-fits-spec : {M : Type 1} → statement M
-receiver-fits-spec =
+pub receiver-settings-spec : {M : Type 1} → statement M
+receiver-settings-spec =
     tie.close
     (tie.spec
     add-if1
@@ -36,6 +36,6 @@ receiver-fits-spec =
     add-if2
     shared-slice-read-if2
     returns-2
-    add-settings-fit
-    settings-fit-requires
+    add-settings-of
+    settings-of-requires
     returns-3)

@@ -48,7 +48,7 @@ enum {
     TINDRABEK_KEY = 6,     /* the packet's MKI is not the context's */
     TINDRABEK_ORDER = 7,   /* the sequence number is the last one or 32,768 or more ahead of it */
     TINDRABEK_SPENT = 8,   /* media index above 2^48 - 1, or 2^31 control packets sent already */
-    TINDRABEK_OLD = 9,     /* index below 0, or more than 63 behind the highest */
+    TINDRABEK_OLD = 9,     /* index below 0, or more than 1,023 behind the highest */
     TINDRABEK_REPEAT = 10, /* index accepted already */
     TINDRABEK_FORGED = 11  /* the authentication tag is wrong */
 };
@@ -138,7 +138,7 @@ typedef struct {
 typedef struct {
     uint32_t has_highest;
     uint64_t highest;
-    uint64_t bits;
+    uint64_t words[16];
 } tindrabek_window;
 
 typedef struct {
@@ -163,13 +163,13 @@ TINDRABEK_SIZE(tindrabek_sender, 528);
 TINDRABEK_PLACE(tindrabek_sender, has_last, 504);
 TINDRABEK_PLACE(tindrabek_sender, last_index, 512);
 TINDRABEK_PLACE(tindrabek_sender, control_sent, 520);
-TINDRABEK_SIZE(tindrabek_window, 24);
+TINDRABEK_SIZE(tindrabek_window, 144);
 TINDRABEK_PLACE(tindrabek_window, highest, 8);
-TINDRABEK_PLACE(tindrabek_window, bits, 16);
-TINDRABEK_SIZE(tindrabek_receiver, 560);
+TINDRABEK_PLACE(tindrabek_window, words, 16);
+TINDRABEK_SIZE(tindrabek_receiver, 800);
 TINDRABEK_PLACE(tindrabek_receiver, rollover, 504);
 TINDRABEK_PLACE(tindrabek_receiver, media, 512);
-TINDRABEK_PLACE(tindrabek_receiver, control, 536);
+TINDRABEK_PLACE(tindrabek_receiver, control, 656);
 
 /* ---- answers */
 
@@ -197,7 +197,7 @@ TINDRABEK_PLACE(tindrabek_answer, len, 8);
 TINDRABEK_PLACE(tindrabek_answer, index, 16);
 TINDRABEK_SIZE(tindrabek_sender_set_up_answer, 536);
 TINDRABEK_PLACE(tindrabek_sender_set_up_answer, context, 8);
-TINDRABEK_SIZE(tindrabek_receiver_set_up_answer, 568);
+TINDRABEK_SIZE(tindrabek_receiver_set_up_answer, 808);
 TINDRABEK_PLACE(tindrabek_receiver_set_up_answer, context, 8);
 
 #undef TINDRABEK_PLACE

@@ -4,7 +4,7 @@ use crate::refusal::Refusal;
 use std::collections::BTreeSet;
 
 /// Indices that the window spans, H among them.
-pub const WINDOW_LENGTH: u64 = 64;
+pub const WINDOW_LENGTH: u64 = 1024;
 
 /// The replay list of one kind of packet.
 #[derive(Clone, Debug, Default, PartialEq, Eq)]

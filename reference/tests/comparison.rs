@@ -1,9 +1,10 @@
 //! The comparison passes the reference and fails whatever differs from it.
 
 use reference::compare::Report;
-use reference::generate::{make_trace, set_up_sweep};
+use reference::generate::{make_trace, set_up_sweep, window_sweep};
 use reference::settings::{Integrity, SetUp};
-use reference::trace::{answer_trace, Call, Record, Records, Request};
+use reference::trace::{answer_trace, Call, Contexts, Record, Records, Request};
+use std::collections::BTreeSet;
 use std::process::{Command, Output};
 
 fn compare(program: &str, seed: u64, calls: u64) -> Output {
@@ -29,8 +30,9 @@ fn the_reference_passes() {
     let number = |text: &str| text.parse::<u64>().unwrap();
     let passed = number(line.split(' ').next().unwrap());
     let calls = number(text.lines().find_map(|line| line.strip_prefix("calls: ")).unwrap());
-    // The records that don't fit are compared as well, and are no calls.
-    assert!((30_000..passed).contains(&calls), "{calls} calls, {passed} passed");
+    let swept = Records::new(&window_sweep(7)).count() as u64;
+    // The sweeps are on top. The records that don't fit are compared as well, and are no calls.
+    assert!((30_000 + swept..passed).contains(&calls), "{calls} calls, {passed} passed");
 }
 
 #[test]
@@ -99,6 +101,25 @@ fn the_sweep_has_every_rate_and_tag_length() {
             };
             assert!(values.iter().any(is_tried), "{length}, {is_rccm2}");
         }
+    }
+}
+
+/// By how much H rises in a trace.
+fn rises(trace: &[u8], call: Call) -> BTreeSet<u64> {
+    let mut contexts = Contexts::default();
+    let rise = |record: Record| {
+        let before = contexts.replay_list(call).highest;
+        contexts.answer(&record);
+        contexts.replay_list(call).highest?.checked_sub(before?)
+    };
+    Records::new(trace).filter_map(rise).collect()
+}
+
+#[test]
+fn the_window_sweep_has_every_jump() {
+    for call in [Call::ReceiveMedia, Call::ReceiveControl] {
+        let rises = rises(&window_sweep(3), call);
+        assert!((1..=1_100).all(|rise| rises.contains(&rise)), "{call}: {rises:?}");
     }
 }
 

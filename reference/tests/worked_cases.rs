@@ -77,8 +77,10 @@ fn d7_farthest_behind_is_old() {
 
 #[test]
 fn d8_both_sides_of_the_window_s_end() {
-    assert_eq!(received(1000, 937), Ok(937));
-    assert_eq!(received(1000, 936), Err(Refusal::Old));
+    assert_eq!(index::distance(2_000, 977), -1_023);
+    assert_eq!(received(2_000, 977), Ok(977));
+    assert_eq!(index::distance(2_000, 976), -1_024);
+    assert_eq!(received(2_000, 976), Err(Refusal::Old));
 }
 
 #[test]
@@ -150,8 +152,8 @@ fn carried_counts_are_read() {
         ("d6, with the count behind", 40_000, 7_232, false),
         ("d6, with the count ahead", 40_000, 72_768, true),
         ("d7, with the count ahead", 40_000, 72_769, true),
-        ("d8, within", 1000, 937, true),
-        ("d8, beyond", 1000, 936, false),
+        ("d8, within", 2_000, 977, true),
+        ("d8, beyond", 2_000, 976, false),
         ("several rollovers ahead", 1000, 7 * 65_536, true),
         ("several rollovers behind", 7 * 65_536, 1000, false),
         ("the last index from the first", 0, MAX_MEDIA_INDEX, true),

@@ -33,7 +33,7 @@ module _ (u : SetUp) (e : u .profile .integrity ≡ HmacSha1) where
   pub default-tag : (a : List ℕ) (i : ℕ) → srtpTag u a i ≡ tagged u mediaLabel (u .profile .«tag_len») (a ++ toBytes 4 (i / 2 ^ 16))
   default-tag a i = rw e
 
-  -- 01: at most 63 behind and 32,767 ahead, or the started rollover counter
+  -- 01: at most 1,023 behind and 32,767 ahead, or the started rollover counter
   pub default-reach : (rollover : ℕ) (h : Highest) (i : ℕ) → Reaches (hasWholeIndex media u i) rollover h i ≡ Reaches false rollover h i
   default-reach rollover h i = rw e
 

@@ -102,13 +102,14 @@ abbrev pub hasWholeIndex : Kind → SetUp → (index : ℕ) → Bool
 hasWholeIndex media u i = carriesCounter (u .profile .integrity) (i % 65536)
 hasWholeIndex control u i = true
 
--- at most 63 behind the highest index. A packet without its whole index is at most 32,767 ahead of it too, and carries the rollover counter
--- that set-up gave where there is no highest index; one that has it may be ahead by any amount, and have any index where there is none
+-- at most 1,023 behind the highest index. A packet without its whole index is at most 32,767 ahead of it too, and carries the rollover
+-- counter that set-up gave where there is no highest index; one that has it may be ahead by any amount, and have any index where there is
+-- none
 abbrev pub Reaches : (whole : Bool) → (rollover : ℕ) → Highest → (index : ℕ) → Type 0
 Reaches false rollover Absent i = Carries i rollover
-Reaches false rollover (At h) i = (h ≤ i + 63) × (i ≤ h + 32767)
+Reaches false rollover (At h) i = (h ≤ i + 1023) × (i ≤ h + 32767)
 Reaches true rollover Absent i = Unit {0}
-Reaches true rollover (At h) i = h ≤ i + 63
+Reaches true rollover (At h) i = h ≤ i + 1023
 
 module _ (u : SetUp) (rollover : ℕ) (number : LastNumber) where
   -- the indices accepted as k (01: let in) by a list of calls from set-up on

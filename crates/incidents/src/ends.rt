@@ -1,12 +1,10 @@
 // Senders at their last index, on contexts made by hand: no set-up starts there, and no evening gets there.
 use crate::packet;
-use crate::say;
 use replay::index::ControlSender;
 use replay::index::LastSent;
 use replay::index::MAX_CONTROL_PACKETS;
 use replay::index::MAX_MEDIA_INDEX;
 use replay::index::MediaSender;
-use srtp::Sender;
 
 pub fn run() {
     words::line(b"a sender with one media index left");
@@ -24,15 +22,7 @@ pub fn run() {
     };
     let mut s = s;
     s.control = all_but_one;
-    let s = send_control(s);
-    send_control(s);
-}
-
-fn send_control(s: Sender) -> Sender {
-    let report: [u8; 8] = [0x80, 201, 0, 1, 0xca, 0xfe, 0xba, 0xbe];
     let mut out = [0u8; 22];
-    let after = s.send_control(&report, &mut out);
-    let answer = after.answer;
-    say::sent_control(answer);
-    after.next
+    let s = packet::send_control(s, &mut out);
+    packet::send_control(s, &mut out);
 }

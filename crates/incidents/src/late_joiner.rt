@@ -51,11 +51,11 @@ fn counter_damaged(link: Link) -> Link {
     link.receive(6, &bad).receive(6, &good).receive(6, &good)
 }
 
-// The packets on both sides of the rollover come 64 and 63 behind.
+// The packets on both sides of the rollover come 1,024 and 1,023 behind.
 fn comes_late(link: Link, before: &[u8], behind: &[u8]) -> Link {
     words::line(b"packets that carry the counter come late, behind the window and at its edge");
     let mut out = [0u8; LEN];
-    let link = link.deliver(63, &mut out);
+    let link = link.deliver(1023, &mut out);
     link.receive(65535, before).receive(0, behind)
 }
 

@@ -6,12 +6,14 @@ mod late_joiner;
 mod packet;
 mod repeats;
 mod rollover;
+mod satellite;
 mod say;
 mod set_ups;
 
 fn main() {
     repeats::run();
     rollover::run();
+    satellite::run();
     damage::run();
     late_joiner::run();
     cases::run();

@@ -88,14 +88,19 @@ fn receive_from(r: Receiver, number: u16, packet: &[u8]) -> Receiver {
     let after = r.receive_media(packet, &mut out);
     let answer = after.answer;
     say::received(number, answer);
-    let Answer::Sent { len: _, index: _ } = answer else {
-        return after.next;
-    };
     let p = plain(number);
-    if !octets::same(&p, &out) {
+    compare(answer, &p, &out);
+    after.next
+}
+
+// Says so where a packet was let in and is not the one that was sent.
+fn compare(answer: Answer, sent: &[u8], opened: &[u8]) {
+    let Answer::Sent { len: _, index: _ } = answer else {
+        return;
+    };
+    if !octets::same(sent, opened) {
         words::line(b"  but it came out as another packet");
     }
-    after.next
 }
 
 // Both with the usual tag, in an array: its length need not be shown by the caller.
@@ -107,6 +112,30 @@ pub fn receive(r: Receiver, number: u16, packet: &[u8; 26]) -> Receiver {
     receive_from(r, number, packet)
 }
 
+// A control packet: a report with nothing in it.
+fn report() -> [u8; 8] {
+    [0x80, 201, 0, 1, 0xca, 0xfe, 0xba, 0xbe]
+}
+
+// Protected, it has four bytes of E and index behind it, and ten of tag.
+pub fn send_control(s: Sender, out: &mut [u8; 22]) -> Sender {
+    let p = report();
+    let after = s.send_control(&p, out);
+    let answer = after.answer;
+    say::sent_control(answer);
+    after.next
+}
+
+pub fn receive_control(r: Receiver, packet: &[u8; 22]) -> Receiver {
+    let mut out = [0u8; 8];
+    let after = r.receive_control(packet, &mut out);
+    let answer = after.answer;
+    say::received_control(answer);
+    let p = report();
+    compare(answer, &p, &out);
+    after.next
+}
+
 // A sender and the receiver at the other end.
 pub struct Link {
     pub sender: Sender,
@@ -114,6 +143,14 @@ pub struct Link {
 }
 
 impl Link {
+    // Both with the usual tag.
+    pub fn usual() -> Self {
+        Link {
+            sender: sender(),
+            receiver: receiver(),
+        }
+    }
+
     // Sends a packet, protected into `out`, which is as long as that.
     pub fn send(self, number: u16, out: &mut [u8]) -> Link {
         let sender = self.sender;

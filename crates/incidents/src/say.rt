@@ -20,6 +20,11 @@ pub fn sent_control(answer: Answer) {
     said(b"sent", answer);
 }
 
+pub fn received_control(answer: Answer) {
+    words::text(b"  receive control");
+    said(b"let in", answer);
+}
+
 // A set-up, behind its values.
 pub fn set_up(values: &[u8], answer: SetUpAnswer) {
     words::text(b"  set up with ");

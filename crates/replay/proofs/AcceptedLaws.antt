@@ -64,6 +64,11 @@ pub raise-old : (n : ℕ) (h : Highest) (i j : ℕ) → tooOld n (raise h i) j �
 raise-old n Absent i j e = refl
 raise-old n (At h) i j e = let l : max h i < j + n = leb-false _ _ e in lt-leb (j + n) h (omega arith)
 
+-- what is not too old for a window is not too old for a longer one
+pub longer-young : (n m : ℕ) → n ≤ m → (h : Highest) (i : ℕ) → tooOld n h i ≡ false → tooOld m h i ≡ false
+longer-young n m l Absent i e = refl
+longer-young n m l (At h) i e = let k : h < i + n = leb-false _ _ e in lt-leb (i + m) h (omega arith)
+
 -- an index within reach is not too old
 pub near-young : (n r : ℕ) (h : Highest) (i : ℕ) → Near n r h i → tooOld n h i ≡ false
 near-young n r Absent i w = refl

@@ -8,27 +8,30 @@ use lib.Dec.{leb, ltb, eqb}
 use lib.Pow.{pow-pos, pow-add, field, mod-mod-pow, shl-shr, shr-shr, pow-lt}
 use lib.Bits.{bitOr, or-shr, or-mod, shifted-even}
 use borrow.Author.Tests.{ltb-true, ltb-false, leb-true, leb-false, eq-eqb, ne-eqb}
-use Rattle.replay.specs.Window.{bit}
+use Rattle.replay.specs.Row.{bit}
 
 -- bit k as a number
-abbrev digit : ℕ → ℕ → ℕ
+abbrev pub digit : ℕ → ℕ → ℕ
 digit b k = b / 2 ^ k % 2
 
 pub bit-zero : (k : ℕ) → bit 0 k ≡ false
 bit-zero k = rw (zero-div (2 ^ k))
 
 -- ---- a bit below n stays when n bits are taken
-digit-mod : (b n k : ℕ) → k < n → digit (b % 2 ^ n) k ≡ digit b k
+pub digit-mod : (b n k : ℕ) → k < n → digit (b % 2 ^ n) k ≡ digit b k
 digit-mod b n k l =
     let j : ℕ = n - suc k in
     let e : n ≡ (j + 1) + k = omega arith in
     rw e (ap (λ (x : ℕ). x % 2) (field b (j + 1) k) ∙ mod-mod-pow (b / 2 ^ k) j 1)
 
+pub bit-mod : (b n k : ℕ) → k < n → bit (b % 2 ^ n) k ≡ bit b k
+bit-mod b n k l = ap (λ (x : ℕ). eqb x 1) (digit-mod b n k l)
+
 -- ---- shifted up by d: bit d + k is what bit k was, and the lowest d bits are 0
 shl-split : (b j k : ℕ) → b * 2 ^ (j + k) ≡ b * 2 ^ j * 2 ^ k
 shl-split b j k = ap (λ (x : ℕ). b * x) (pow-add 2 j k) ∙ sym (mul-assoc b (2 ^ j) (2 ^ k))
 
-digit-shl : (b d k : ℕ) → d ≤ k → digit (b * 2 ^ d) k ≡ digit b (k - d)
+pub digit-shl : (b d k : ℕ) → d ≤ k → digit (b * 2 ^ d) k ≡ digit b (k - d)
 digit-shl b d k l =
     let e : k ≡ d + (k - d) = omega arith in
     ap (λ (x : ℕ). digit (b * 2 ^ d) x) e

@@ -3,4 +3,6 @@ pub mod AcceptedLaws
 pub mod WindowLaws
 mod IndexReturns
 mod BitLaws
+mod RowLaws
+mod RowReturns
 mod WindowReturns

@@ -3,17 +3,19 @@
 use mathlib.Core.Path.{_≡_, refl, sym, _∙_}
 use mathlib.Core.Bool.{Bool, true, false, cond, not, _&&_, _||_, and-false, or-false, or-true, or-comm}
 use mathlib.Core.List.{List, [], _∷_}
-use Prim.Native.Nat.{ℕ, _+_, _-_, _≤_, _<_, max}
+use Prim.Native.Nat.{ℕ, _+_, _-_, _*_, _%_, _^_, _≤_, _<_, max}
 use native.Mathlib.Omega.{arith}
 use lib.Dec.{leb, ltb, eqb}
 use borrow.Author.Tests.{ltb-true, ltb-false, leb-true, leb-false, lt-ltb, le-ltb, le-leb, lt-leb, eq-eqb, ne-eqb, eqb-true, eqb-false}
 use Rattle.replay.specs.Accepted.{mem, Accepted, start, tooOld, judged, verdict, raise, accept, acceptAll, highestOf, AtMost}
-use Rattle.replay.specs.Window.{bit, marks, marked, Means, windowStart, windowVerdict, wordAfter, windowMark, windowMarkAll}
+use Rattle.replay.specs.Row.{bit, fromWords, toWords, wordCount}
+use Rattle.replay.specs.Window.{windowLength, marks, marked, Means, windowStart, windowVerdict, bitsAfter, windowMark, windowMarkAll}
 use Rattle.replay.specs.declared.index.Highest.{Highest}
 use Rattle.replay.specs.declared.index.Highest.the-variants.{Absent, At}
 use Rattle.replay.specs.declared.window.Verdict.the-variants.{Old, Repeat}
 use Rattle.replay.specs.declared.window.Window.{Window}
-use Rattle.replay.proofs.BitLaws.{bit-zero, bit-power, bit-moved, bit-set}
+use Rattle.replay.proofs.BitLaws.{bit-zero, bit-power, bit-moved, bit-set, bit-mod}
+use Rattle.replay.proofs.RowLaws.{from-to, from-zeros}
 use Rattle.replay.proofs.AcceptedLaws.{raise-old, never-falls}
 
 -- ---- where an index lies to a window of length n with highest index h, and what is marked there
@@ -41,7 +43,7 @@ module _ (n h b j : ℕ) where
   marks-old l = rw (le-leb j h (omega arith), le-leb (j + n) h l)
 
 -- ---- accepting i adds i to the marks and takes away only what is too old then
--- at the new highest index k, with the new word c: it is enough to look at the bits
+-- at the new highest index k, with the new bits c: it is enough to look at each of them
 by-bits : (n k c i j : ℕ) (was : Bool) → i ≤ k → (k < j → was ≡ false) →
     (j ≤ k → k < j + n → bit c (k - j) ≡ (eqb j i || was)) → marks n (At k) c j ≡ (not (tooOld n (At k) j) && (eqb j i || was))
 by-bits n k c i j was l f g = go (place n k j)
@@ -64,7 +66,7 @@ own-place i j m = let z : i - i ≡ 0 = omega arith in rw z at (same-place i i j
 
 module _ (n h b i j : ℕ) where
   -- i is ahead of h
-  ahead-bits : h < i → j ≤ i → i < j + n → bit (wordAfter n (At h) b i) (i - j) ≡ (eqb j i || marks n (At h) b j)
+  ahead-bits : h < i → j ≤ i → i < j + n → bit (bitsAfter n (At h) b i) (i - j) ≡ (eqb j i || marks n (At h) b j)
   ahead-bits l m o = rw (lt-ltb h i l) (bit-moved n b (i - h) (i - j) (omega arith) (omega arith) ∙ go (ltb (i - j) (i - h)) refl)
     where
       go : (x : Bool) → ltb (i - j) (i - h) ≡ x → cond x (eqb (i - j) 0) (bit b (i - j - (i - h))) ≡ (eqb j i || marks n (At h) b j)
@@ -77,47 +79,60 @@ module _ (n h b i j : ℕ) where
           rw (z, ne-eqb j i (λ p. omega arith), marks-within n h b j (omega arith) (omega arith))
 
   -- i is within reach of h
-  within-bits : i ≤ h → h < i + n → j ≤ h → h < j + n → bit (wordAfter n (At h) b i) (h - j) ≡ (eqb j i || marks n (At h) b j)
+  within-bits : i ≤ h → h < i + n → j ≤ h → h < j + n → bit (bitsAfter n (At h) b i) (h - j) ≡ (eqb j i || marks n (At h) b j)
   within-bits l u m o =
       rw (le-ltb h i l, lt-leb (i + n) h u, marks-within n h b j m o)
       (bit-set b (h - i) (h - j) ∙ rw (same-place h i j l m) (or-comm (bit b (h - j)) (eqb j i)))
 
-  -- i is too old: the word stays
-  old-bits : i + n ≤ h → j ≤ h → h < j + n → bit (wordAfter n (At h) b i) (h - j) ≡ (eqb j i || marks n (At h) b j)
+  -- i is too old: the bits stay
+  old-bits : i + n ≤ h → j ≤ h → h < j + n → bit (bitsAfter n (At h) b i) (h - j) ≡ (eqb j i || marks n (At h) b j)
   old-bits u m o =
       rw (le-ltb h i (omega arith), le-leb (i + n) h u, ne-eqb j i (λ p. omega arith), marks-within n h b j m o)
 
   after-bits : Place n h i →
-      marks n (raise (At h) i) (wordAfter n (At h) b i) j ≡ (not (tooOld n (raise (At h) i) j) && (eqb j i || marks n (At h) b j))
+      marks n (raise (At h) i) (bitsAfter n (At h) b i) j ≡ (not (tooOld n (raise (At h) i) j) && (eqb j i || marks n (At h) b j))
   after-bits (above l) =
       let e : max h i ≡ i = omega arith in
-      rw e (by-bits n i (wordAfter n (At h) b i) i j (marks n (At h) b j) (omega arith) (λ m. marks-above n h b j (omega arith)) (ahead-bits l))
+      rw e (by-bits n i (bitsAfter n (At h) b i) i j (marks n (At h) b j) (omega arith) (λ m. marks-above n h b j (omega arith)) (ahead-bits l))
   after-bits (within l u) =
       let e : max h i ≡ h = omega arith in
-      rw e (by-bits n h (wordAfter n (At h) b i) i j (marks n (At h) b j) l (marks-above n h b j) (within-bits l u))
+      rw e (by-bits n h (bitsAfter n (At h) b i) i j (marks n (At h) b j) l (marks-above n h b j) (within-bits l u))
   after-bits (old u) =
       let e : max h i ≡ h = omega arith in
-      rw e (by-bits n h (wordAfter n (At h) b i) i j (marks n (At h) b j) (omega arith) (marks-above n h b j) (old-bits u))
+      rw e (by-bits n h (bitsAfter n (At h) b i) i j (marks n (At h) b j) (omega arith) (marks-above n h b j) (old-bits u))
+
+-- a row that has room for n bits keeps the marks
+row-marks : (n : ℕ) (h : Highest) (bits j : ℕ) → marks n h (fromWords (toWords (wordCount n) bits)) j ≡ marks n h bits j
+row-marks n Absent bits j = refl
+row-marks n (At h) bits j = rw (from-to (wordCount n) bits) (go (64 * wordCount n) (omega arith) (place n h j))
+  where
+    go : (m : ℕ) → n ≤ m → Place n h j → marks n (At h) (bits % 2 ^ m) j ≡ marks n (At h) bits j
+    go m f (above l) = marks-above n h (bits % 2 ^ m) j l ∙ sym (marks-above n h bits j l)
+    go m f (within l o) =
+        marks-within n h (bits % 2 ^ m) j l o ∙ bit-mod bits m (h - j) (omega arith) ∙ sym (marks-within n h bits j l o)
+    go m f (old l) = marks-old n h (bits % 2 ^ m) j l ∙ sym (marks-old n h bits j l)
 
 -- so it is of every window value
 pub mark-marks : (n : ℕ) (w : Window) (i j : ℕ) →
     marked n (windowMark n w i) j ≡ (not (tooOld n (raise (w .highest) i) j) && (eqb j i || marked n w j))
-mark-marks n w i j = go (w .highest)
+mark-marks n w i j = row-marks n (raise (w .highest) i) (bitsAfter n (w .highest) bits i) j ∙ go (w .highest)
   where
-    go : (h : Highest) →
-        marks n (raise h i) (wordAfter n h (w .bits) i) j ≡ (not (tooOld n (raise h i) j) && (eqb j i || marks n h (w .bits) j))
+    bits : ℕ
+    bits = fromWords (w .words)
+
+    go : (h : Highest) → marks n (raise h i) (bitsAfter n h bits i) j ≡ (not (tooOld n (raise h i) j) && (eqb j i || marks n h bits j))
     go Absent =
         by-bits n i 1 i j false (omega arith) (λ m. refl)
         (λ m o. bit-power 0 (i - j) ∙ own-place i j m ∙ sym (or-false (eqb j i)))
-    go (At h) = after-bits n h (w .bits) i j (place n h i)
+    go (At h) = after-bits n h bits i j (place n h i)
 
 -- ---- the window means a set, and goes on doing so
 pub start-means : (n : ℕ) (h : Highest) → Means n (windowStart h) (start h)
 start-means n h = record { highest = refl; marks-are = λ i. none h i ∙ sym (and-false (not (tooOld n h i))) }
   where
-    none : (h : Highest) (i : ℕ) → marks n h 0 i ≡ false
+    none : (h : Highest) (i : ℕ) → marked n (windowStart h) i ≡ false
     none Absent i = refl
-    none (At k) i = rw (bit-zero (k - i)) (and-false (leb i k && not (tooOld n (At k) i)))
+    none (At k) i = rw (from-zeros (wordCount windowLength), bit-zero (k - i)) (and-false (leb i k && not (tooOld n (At k) i)))
 
 pub mark-means : (n : ℕ) (w : Window) (a : Accepted) → Means n w a → (i : ℕ) → Means n (windowMark n w i) (accept a i)
 mark-means n w a s i =

@@ -1,3 +1,4 @@
 pub mod Index
 pub mod Accepted
+pub mod Row
 pub mod Window

@@ -1,8 +1,9 @@
-// The replay window (RFC 3711, 3.3.2): which of the last 64 indices up to the highest were accepted. Media and control have one each.
+// The replay window (RFC 3711, 3.3.2): which of the last 1,024 indices up to the highest were accepted. Media and control have one each.
 ghost use mathlib.Core.Path.{_≡_};
 ghost use Rattle.replay.specs.declared.index.Highest.the-variants.{Absent};
 ghost use Rattle.replay.specs.Window.{windowLength, windowStart, windowVerdict, windowMark, windowMarked};
 use crate::index::Highest;
+use crate::row;
 
 // What a receiver makes of an index: it is new; or refused as OLD, too far behind the highest; or refused as REPEAT, accepted already.
 pub enum Verdict {
@@ -11,10 +12,10 @@ pub enum Verdict {
     Repeat,
 }
 
-// Bit k of `bits` tells whether the index k below the highest was accepted. Without a highest index the bits say nothing.
+// Bit k of the row tells whether the index k below the highest was accepted. Without a highest index the bits say nothing.
 pub struct Window {
     pub highest: Highest,
-    pub bits: u64,
+    pub words: [u64; 16],
 }
 
 // The verdict on an index, and beside it the window with the index accepted.
@@ -24,8 +25,8 @@ pub struct Marked {
 }
 
 impl Window {
-    // How many indices the window covers: the highest and those at most 63 below it.
-    pub const LENGTH: u64 = 64;
+    // How many indices the window covers: the highest and those at most 1,023 below it.
+    pub const LENGTH: u64 = 1024;
 
     // No highest index and nothing accepted.
     pub fn empty() -> Self
@@ -33,7 +34,7 @@ impl Window {
     {
         Window {
             highest: Highest::Absent,
-            bits: 0,
+            words: [0; 16],
         }
     }
 
@@ -41,7 +42,10 @@ impl Window {
     pub fn starting(highest: Highest) -> Self
         ensures { λ r. ⌜ r ≡ windowStart highest ⌝ }
     {
-        Window { highest, bits: 0 }
+        Window {
+            highest,
+            words: [0; 16],
+        }
     }
 
     // What the receiver makes of this index.
@@ -59,7 +63,8 @@ impl Window {
         if back >= Window::LENGTH {
             return Verdict::Old;
         }
-        if (self.bits >> back) & 1 == 1 {
+        let words = self.words;
+        if row::has_bit(words, back) {
             return Verdict::Repeat;
         }
         Verdict::New
@@ -73,20 +78,22 @@ impl Window {
         let Highest::At(h) = highest else {
             return Window {
                 highest: Highest::At(index),
-                bits: 1,
+                words: row::one(),
             };
         };
+        let words = self.words;
         if h < index {
             let rise = index - h;
             if rise >= Window::LENGTH {
                 return Window {
                     highest: Highest::At(index),
-                    bits: 1,
+                    words: row::one(),
                 };
             }
+            let risen = row::shifted(words, rise);
             return Window {
                 highest: Highest::At(index),
-                bits: (self.bits << rise) | 1,
+                words: row::with_bit(risen, 0),
             };
         }
         let back = h - index;
@@ -95,7 +102,7 @@ impl Window {
         }
         Window {
             highest: Highest::At(h),
-            bits: self.bits | (1 << back),
+            words: row::with_bit(words, back),
         }
     }
 

@@ -129,7 +129,7 @@ abbrev zeroSession : Session
 zeroSession = record { profile = zeroProfile; ssrc = 0; mki = replicate 4 0; «mki_len» = 0; media = zeroKeys; control = zeroKeys }
 
 abbrev zeroWindow : Window
-zeroWindow = record { «has_highest» = 0; highest = 0; bits = 0 }
+zeroWindow = record { «has_highest» = 0; highest = 0; words = replicate 16 0 }
 
 pub sender-zeros : plainSender closedSender ≡ record { session = zeroSession; «has_last» = 0; «last_index» = 0; «control_sent» = 0 }
 unfolding plainSender closedSender

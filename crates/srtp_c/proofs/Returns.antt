@@ -111,11 +111,11 @@ unfolding plainSender
 plain-sender c s h i e f g = rw (e, f, g)
 
 -- ---- receivers
-pub window-of : (w : Window) (h : Highest) → h ≡ highestOf (w .«has_highest») (w .highest) → record { highest = h; bits = w .bits } ≡ windowOf w
+pub window-of : (w : Window) (h : Highest) → h ≡ highestOf (w .«has_highest») (w .highest) → record { highest = h; words = w .words } ≡ windowOf w
 window-of w h e = rw e
 
 pub plain-window : (w : core-window.Window) (h i : ℕ) → h ≡ hasHighest (w .highest) → i ≡ highestIndex (w .highest)
-    → record { «has_highest» = h; highest = i; bits = w .bits } ≡ plainWindow w
+    → record { «has_highest» = h; highest = i; words = w .words } ≡ plainWindow w
 plain-window w h i e f = rw (e, f)
 
 module _ (c : Receiver) (b : Bool) (e : b ≡ receiverNamed c) where

@@ -144,10 +144,10 @@ plainSender c =
 
 -- ---- receivers
 abbrev pub windowOf : Window → core-window.Window
-windowOf w = record { highest = highestOf (w .«has_highest») (w .highest); bits = w .bits }
+windowOf w = record { highest = highestOf (w .«has_highest») (w .highest); words = w .words }
 
 abbrev pub plainWindow : core-window.Window → Window
-plainWindow w = record { «has_highest» = hasHighest (w .highest); highest = highestIndex (w .highest); bits = w .bits }
+plainWindow w = record { «has_highest» = hasHighest (w .highest); highest = highestIndex (w .highest); words = w .words }
 
 abbrev pub receiverNamed : Receiver → Bool
 receiverNamed c = profileNamed (c .session .profile) && (twoCased (c .media .«has_highest») && twoCased (c .control .«has_highest»))

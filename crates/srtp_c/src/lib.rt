@@ -53,12 +53,13 @@ pub struct Sender {
     pub control_sent: u64,
 }
 
-// A replay window: `highest` is the highest index if `has_highest` is 1; with 0 there is none.
+// A replay window: `highest` is the highest index if `has_highest` is 1; with 0 there is none. Bit k of `words`, the lowest word
+// first, tells whether the index k below the highest was accepted.
 #[repr(C)]
 pub struct Window {
     pub has_highest: u32,
     pub highest: u64,
-    pub bits: u64,
+    pub words: [u64; 16],
 }
 
 #[repr(C)]

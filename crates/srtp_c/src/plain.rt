@@ -295,20 +295,19 @@ impl Window {
         ensures { λ r. ⌜ r ≡ windowOf self ⌝ }
     {
         let highest = highest_of(self.has_highest, self.highest);
-        replay::window::Window {
-            highest,
-            bits: self.bits,
-        }
+        let words = self.words;
+        replay::window::Window { highest, words }
     }
 
     fn from_core(window: replay::window::Window) -> Window
         ensures { λ r. ⌜ r ≡ plainWindow window ⌝ }
     {
         let highest = window.highest;
+        let words = window.words;
         Window {
             has_highest: has_highest(highest),
             highest: highest_index(highest),
-            bits: window.bits,
+            words,
         }
     }
 }

@@ -10,6 +10,7 @@ use crate::report::{head, nanos, ratio_and_spread, row};
 use crate::rounds::interleaved;
 use reference::random::Random;
 use reference::refusal::Refusal;
+use reference::replay::WINDOW_LENGTH;
 use reference::settings::{Start, MAX_PLAIN_LENGTH};
 use std::time::Duration;
 
@@ -51,7 +52,7 @@ fn case(call: Call, refusal: Refusal, change: fn(&mut Case)) -> Case {
 fn cases() -> Vec<Case> {
     use Call::{Open, Protect};
     let at_last_index = |case: &mut Case| case.settings.start = start(u32::MAX, u16::MAX);
-    let far_ahead = |case: &mut Case| case.settings.start = start(0, NUMBER + 64);
+    let far_ahead = |case: &mut Case| case.settings.start = start(0, NUMBER + WINDOW_LENGTH as u16);
     let too_long = |case: &mut Case| case.packet.resize(MAX_PLAIN_LENGTH + TAG_LENGTH + 1, 0);
     vec![
         case(Protect, Refusal::Setup, |case| case.settings.tag_length = 9),

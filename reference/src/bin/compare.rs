@@ -1,7 +1,7 @@
 //! Makes random traces, runs a trace program on them and compares every answer byte.
 
 use reference::compare::Report;
-use reference::generate::{make_trace, set_up_sweep};
+use reference::generate::{make_trace, set_up_sweep, window_sweep};
 use reference::options::Options;
 use reference::random::Random;
 use std::path::PathBuf;
@@ -18,17 +18,19 @@ fn run() -> Result<bool, String> {
     println!("seed {seed}");
     let mut seeds = Random::new(seed);
     let mut report = Report::default();
-    let mut trace = set_up_sweep(seeds.bits());
-    loop {
-        report
-            .compare_program(&program, &trace)
-            .map_err(|error| format!("{}: {error}", program.display()))?;
-        let left = calls.saturating_sub(report.coverage.calls());
-        if left == 0 {
-            return Ok(tell(&report));
-        }
-        trace = make_trace(seeds.bits(), left.min(CALLS_IN_TRACE) as usize);
+    // Runs the program on a trace, and tells how many calls there were so far.
+    let mut run_on = |trace: Vec<u8>| match report.compare_program(&program, &trace) {
+        Ok(()) => Ok(report.coverage.calls()),
+        Err(error) => Err(format!("{}: {error}", program.display())),
+    };
+    run_on(set_up_sweep(seeds.bits()))?;
+    let mut done = run_on(window_sweep(seeds.bits()))?;
+    // The sweeps are on top of the calls that are asked for.
+    let wanted = done.saturating_add(calls);
+    while done < wanted {
+        done = run_on(make_trace(seeds.bits(), (wanted - done).min(CALLS_IN_TRACE) as usize))?;
     }
+    Ok(tell(&report))
 }
 
 /// Prints the report; true if nothing failed.

@@ -5,7 +5,7 @@ use crate::layout::{ProtectedControl, ProtectedMedia, RtpHeader};
 use crate::refusal::Refusal::{self, Long, Room};
 use crate::session::Session;
 use crate::settings::{Cipher, Integrity};
-use crate::trace::Call::{self, ReceiveMedia, SendControl, SendMedia};
+use crate::trace::Call::{self, ReceiveControl, ReceiveMedia, SendControl, SendMedia};
 use crate::trace::{Answer, Contexts, FINISHED};
 
 /// A corner: its name, and whether an event is in it.
@@ -81,19 +81,29 @@ impl Event<'_> {
         index::rollover_count(highest) > index::rollover_count(self.answer.index)
     }
 
-    /// The distance from the receiver's highest control index.
-    pub fn control_distance(&self) -> Option<i64> {
-        let parts = ProtectedControl::read(self.packet, &self.session()?.settings)?;
-        Some(parts.index as i64 - self.before.receiver.control.highest? as i64)
+    /// The parts of a received control packet.
+    fn control(&self) -> Option<ProtectedControl<'_>> {
+        ProtectedControl::read(self.packet, &self.session()?.settings)
+    }
+
+    /// The index of a received packet that has the layout, whatever becomes of it.
+    pub fn index(&self) -> Option<u64> {
+        match self.call {
+            ReceiveMedia => self.before.receiver.media_index(&self.media()?).ok(),
+            ReceiveControl => self.control().map(|parts| parts.index),
+            _ => None,
+        }
+    }
+
+    /// The distance of a received index from the highest of its kind.
+    pub fn distance(&self) -> Option<i64> {
+        Some(self.index()? as i64 - self.before.replay_list(self.call).highest? as i64)
     }
 
     /// Whether the E bit is as given under the cipher.
     pub fn has_e_bit(&self, cipher: Cipher, e_bit: bool) -> bool {
-        self.session().is_some_and(|Session { settings, .. }| {
-            settings.cipher == cipher
-                && ProtectedControl::read(self.packet, settings)
-                    .is_some_and(|parts| parts.is_enciphered == e_bit)
-        })
+        self.session().is_some_and(|session| session.settings.cipher == cipher)
+            && self.control().is_some_and(|parts| parts.is_enciphered == e_bit)
     }
 
     /// The length of the call's result, refused or not.

@@ -1,9 +1,10 @@
 //! The corners of the rules that a run must have met, beside the table of refusals: the limits
-//! of step, distance, window, index, length and room, and what RFC 4771 adds.
+//! of step, distance, window, index, length and room, what RFC 4771 adds, and jumps of H.
 
 mod event;
 mod rfc3711;
 mod rfc4771;
+mod window;
 
 use crate::trace::{Answer, Contexts, Record, Request};
 use event::{Corner, Event};
@@ -11,7 +12,7 @@ use std::fmt;
 
 /// Every corner, in the order in which they are told.
 fn corners() -> impl Iterator<Item = &'static Corner> {
-    rfc3711::CORNERS.iter().chain(rfc4771::CORNERS)
+    rfc3711::CORNERS.iter().chain(rfc4771::CORNERS).chain(window::CORNERS)
 }
 
 /// How often each corner was met.

@@ -40,11 +40,11 @@ pub const CORNERS: &[Corner] = &[
     ("receive media: 32,768 ahead done", |e| {
         e.finished(ReceiveMedia) && e.estimated_distance() == Some(32_768)
     }),
-    ("receive media: 63 behind done", |e| {
-        e.finished(ReceiveMedia) && e.estimated_distance() == Some(-63)
+    ("receive media: 1,023 behind done", |e| {
+        e.finished(ReceiveMedia) && e.estimated_distance() == Some(-1023)
     }),
-    ("receive media: 64 behind OLD", |e| {
-        e.refused(ReceiveMedia, Old) && e.estimated_distance() == Some(-64)
+    ("receive media: 1,024 behind OLD", |e| {
+        e.refused(ReceiveMedia, Old) && e.estimated_distance() == Some(-1024)
     }),
     ("receive media: 32,767 behind OLD", |e| {
         e.refused(ReceiveMedia, Old) && e.estimated_distance() == Some(-32_767)
@@ -70,11 +70,11 @@ pub const CORNERS: &[Corner] = &[
             && e.before.receiver.control.highest.is_none()
             && e.answer.index > 0
     }),
-    ("receive control: 63 behind done", |e| {
-        e.finished(ReceiveControl) && e.control_distance() == Some(-63)
+    ("receive control: 1,023 behind done", |e| {
+        e.finished(ReceiveControl) && e.distance() == Some(-1023)
     }),
-    ("receive control: 64 behind OLD", |e| {
-        e.refused(ReceiveControl, Old) && e.control_distance() == Some(-64)
+    ("receive control: 1,024 behind OLD", |e| {
+        e.refused(ReceiveControl, Old) && e.distance() == Some(-1024)
     }),
     ("receive control: 2^31 - 1 done", |e| {
         e.finished(ReceiveControl) && e.answer.index == MAX_CONTROL_INDEX

@@ -37,8 +37,8 @@ pub const CORNERS: &[Corner] = &[
     ("receive media: carried, estimate below 0 done", |e| {
         e.finished(ReceiveMedia) && e.misestimate().is_some_and(|index| index < 0)
     }),
-    ("receive media: carried, 63 behind done", |e| {
-        e.finished(ReceiveMedia) && e.carried_distance() == Some(-63)
+    ("receive media: carried, 1,023 behind done", |e| {
+        e.finished(ReceiveMedia) && e.carried_distance() == Some(-1023)
     }),
     ("receive media: carried, late over a rollover", |e| {
         e.finished(ReceiveMedia) && e.is_carrier() && e.is_late_over_a_rollover()
@@ -46,8 +46,8 @@ pub const CORNERS: &[Corner] = &[
     ("receive media: carried, count of the last rollover 2^32 - 1", |e| {
         e.finished(ReceiveMedia) && e.carried_count() == Some(u32::MAX)
     }),
-    ("receive media: carried, 64 behind OLD", |e| {
-        e.read_and_refused(Old) && e.carried_distance() == Some(-64)
+    ("receive media: carried, 1,024 behind OLD", |e| {
+        e.read_and_refused(Old) && e.carried_distance() == Some(-1024)
     }),
     ("receive media: carried, rollovers behind OLD", |e| {
         e.read_and_refused(Old) && e.carried_distance().is_some_and(|d| d <= -65_536)
@@ -116,9 +116,8 @@ impl Event<'_> {
 
     /// How many bits are wrong in the first 10 bytes of the MAC, those that every packet has.
     fn wrong_bits(&self) -> Option<u32> {
-        let parts = self.media()?;
-        let index = self.before.receiver.media_index(&parts).ok()?;
-        let mac = self.session()?.media_mac(parts.authenticated, index::rollover_count(index));
+        let (parts, count) = (self.media()?, index::rollover_count(self.index()?));
+        let mac = self.session()?.media_mac(parts.authenticated, count);
         Some(parts.mac.iter().zip(mac).take(10).map(|(a, b)| (a ^ b).count_ones()).sum())
     }
 
@@ -126,7 +125,7 @@ impl Event<'_> {
     /// receiver's or one bit away from the packet's.
     fn fits_another_count(&self) -> bool {
         let (Some(session), Some(parts)) = (self.session(), self.media()) else { return false };
-        let Ok(index) = self.before.receiver.media_index(&parts) else { return false };
+        let Some(index) = self.index() else { return false };
         let count = index::rollover_count(index);
         let highest = index::rollover_count(self.highest().unwrap_or(0));
         let ahead = (0..10).map(|more| highest.wrapping_add(more));

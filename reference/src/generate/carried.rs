@@ -1,7 +1,7 @@
 //! Indices for a receiver that reads the rollover count (RFC 4771): most of them of packets that
 //! carry it, at the limits of what is let in.
 
-use super::set_ups;
+use super::{set_ups, window};
 use crate::index::{self, MAX_MEDIA_INDEX};
 use crate::random::Random;
 use crate::replay::WINDOW_LENGTH;
@@ -59,26 +59,24 @@ pub fn first(random: &mut Random, started_count: u32, rate: u16) -> u64 {
     at_or_before(index::join(count, set_ups::number(random)), rate)
 }
 
-/// An index about the receiver's highest: mostly the next, often late, or farther ahead than an
-/// estimate reaches.
+/// An index about the receiver's highest: mostly the next, often late, at times a jump ahead or
+/// farther than an estimate reaches.
 pub fn next(random: &mut Random, highest: u64, rate: u16) -> u64 {
     let ahead = |distance| after(highest + distance, rate);
     let behind = |distance| at_or_before(highest.saturating_sub(distance), rate);
-    let within = random.within(1..=WINDOW_LENGTH - 2);
-    let beyond = random.within(WINDOW_LENGTH + 1..=WINDOW_LENGTH + 240);
+    let jump = window::jump(random);
+    let late = window::lateness(random);
     let far = far_ahead(random, highest, rate);
     let over_rollover = rollover_after(highest) + random.within(0..=30);
     // Half the numbers ahead of a low H, an estimate would be below 0.
     let is_low = highest < HALF;
     let index = random.weighted([
         (30, ahead(0)),
+        (8, ahead(jump)),
         (6, at_or_before(over_rollover, rate)),
         (12, lookalike(highest, rate)),
         (10, behind(0)),
-        (14, behind(within)),
-        (6, behind(WINDOW_LENGTH - 1)),
-        (6, behind(WINDOW_LENGTH)),
-        (5, behind(beyond)),
+        (31, behind(late)),
         (3, behind(NUMBERS)),
         (8 + 200 * u64::from(is_low), ahead(HALF)),
         (10, far),
@@ -106,13 +104,13 @@ pub fn far_ahead(random: &mut Random, highest: u64, rate: u16) -> u64 {
 pub fn late(random: &mut Random, highest: u64, rate: u16) -> (u64, u64) {
     let rollover = rollover_after(highest);
     let next = after(highest, rate);
-    let within = random.within(1..=WINDOW_LENGTH - 2);
+    let lateness = window::lateness(random);
     // Number 0 carries the count, so that its packet is let in from any distance.
-    let past_rollover = rollover + random.pick([0, 0, within / 2]);
+    let past_rollover = rollover + random.pick([0, 0, lateness / 2]);
     let (late, later) = random.weighted([
         (3, (next, next + WINDOW_LENGTH - 1)),
         (3, (next, next + WINDOW_LENGTH)),
-        (3, (next, next + within)),
+        (3, (next, next + lateness)),
         (6, (at_or_before(rollover - 1, rate), past_rollover)),
     ]);
     (late, later.min(MAX_MEDIA_INDEX))

@@ -101,11 +101,11 @@ impl Evening {
         self.receive(65_534);
     }
 
-    /// Two packets that nobody has had yet: the one 63 behind the highest index is let in, and
-    /// the one 64 behind is not.
+    /// The sender skips ahead. Of two packets that nobody has had yet, the one 1,023 behind the
+    /// highest index is let in, and the one 1,024 behind is not.
     fn fall_behind_the_window(&mut self) {
-        self.send(60, "lot 43, from 1,000");
-        self.receive(60);
+        self.send(1_020, "lot 43, from 1,000");
+        self.receive(1_020);
         self.receive(65_533);
         self.receive(65_532);
     }
@@ -113,10 +113,10 @@ impl Evening {
     /// A record of no known op changes nothing; a refused set-up closes its own context alone.
     fn close_the_receiver(&mut self) {
         self.recorder.record(b'?', b"what is this?");
-        self.send(61, "lot 43, no bids");
+        self.send(1_021, "lot 43, no bids");
         self.set_up_receiver(&SetUp { master_key: b"a short key".to_vec(), ..values() });
-        self.receive(61);
-        self.send(62, "good night");
+        self.receive(1_021);
+        self.send(1_022, "good night");
     }
 
     fn set_up_receiver(&mut self, values: &SetUp) {

@@ -1,12 +1,14 @@
-//! Traces: random ones from a seed, and the example.
+//! Traces: random ones and sweeps from a seed, and the example.
 //!
 //! A random trace is a row of scenes. A scene sets up a sender and a receiver on one link and then
-//! mixes good packets with lost, late, repeated, damaged and strange ones. The maker answers its
-//! own records as it goes, so that it knows each context and can aim at the limits.
+//! mixes good packets with lost, late, repeated, damaged and strange ones, and with jumps over the
+//! replay window. The maker answers its own records as it goes, so that it knows each context and
+//! can aim at the limits.
 
 mod carried;
 mod damage;
 mod evening;
+mod made;
 mod misfit;
 mod plain;
 mod recorder;
@@ -14,9 +16,12 @@ mod scene;
 mod set_ups;
 mod sweep;
 mod targets;
+mod window;
+mod window_sweep;
 
 pub use evening::evening;
 pub use sweep::set_up_sweep;
+pub use window_sweep::window_sweep;
 
 use crate::random::Random;
 use crate::trace::Call;

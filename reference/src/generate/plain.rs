@@ -46,6 +46,16 @@ pub fn control(random: &mut Random, ssrc: u32) -> Vec<u8> {
         (6, 61..=300),
         (10, longest - 1..=longest + 1),
     ]);
+    control_of(random, ssrc, words)
+}
+
+/// A control packet with a few bytes behind the clear part, or none.
+pub fn small_control(random: &mut Random, ssrc: u32) -> Vec<u8> {
+    let words = random.length(2..=5);
+    control_of(random, ssrc, words)
+}
+
+fn control_of(random: &mut Random, ssrc: u32, words: usize) -> Vec<u8> {
     let mut packet = vec![0x80 | random.byte() & 0x3f];
     packet.extend(random.bytes(3));
     packet.extend_from_slice(&ssrc.to_be_bytes());

@@ -1,6 +1,6 @@
 //! Which number or index a packet gets: mostly the next, often one at a limit of the rules.
 
-use super::{carried, set_ups};
+use super::{carried, set_ups, window};
 use crate::index::{self, MAX_CONTROL_INDEX, MAX_MEDIA_INDEX};
 use crate::random::Random;
 use crate::replay::WINDOW_LENGTH;
@@ -8,7 +8,6 @@ use crate::settings::Integrity;
 
 /// Half the sequence numbers.
 const HALF: i64 = 1 << 15;
-const WINDOW: i64 = WINDOW_LENGTH as i64;
 
 /// A sender's next number after its last index.
 pub fn next_number(random: &mut Random, last: u64, integrity: Integrity) -> u16 {
@@ -17,12 +16,14 @@ pub fn next_number(random: &mut Random, last: u64, integrity: Integrity) -> u16 
         Integrity::Rccm2 { rate } => (25, carried::step(random, last, rate)),
     };
     let few = random.within(2..=5) as u16;
+    let jump = window::jump(random) as u16;
     let many = random.within(6..=32_766) as u16;
     let behind = random.within(32_769..=65_535) as u16;
     let to_rollover = 0u16.wrapping_sub(index::number(last));
     let step = random.weighted([
         (60, 1),
         (15, few),
+        (10, jump),
         (5, many),
         (4, to_rollover),
         (weight, to_carrying),
@@ -70,7 +71,7 @@ pub fn next_media(random: &mut Random, highest: u64) -> i64 {
 pub fn first_control(random: &mut Random) -> u64 {
     let any = random.within(0..=MAX_CONTROL_INDEX);
     let near_end = near_control_end(random);
-    random.weighted([(4, 0), (2, 1), (2, 64), (2, any), (2, near_end)])
+    random.weighted([(4, 0), (2, 1), (2, WINDOW_LENGTH), (2, any), (2, near_end)])
 }
 
 /// A control index about the receiver's highest.
@@ -85,18 +86,11 @@ fn near_control_end(random: &mut Random) -> u64 {
     MAX_CONTROL_INDEX - random.within(0..=3)
 }
 
-/// A distance within the window or a little beyond.
+/// A distance about the window: on to the next index or by a jump, or back to its end or a little
+/// beyond.
 fn near(random: &mut Random) -> i64 {
-    let ahead = random.within(2..=8) as i64;
-    let behind = -(random.within(1..=WINDOW_LENGTH - 2) as i64);
-    let beyond = -(random.within(WINDOW_LENGTH + 1..=WINDOW_LENGTH + 240) as i64);
-    random.weighted([
-        (35, 1),
-        (14, ahead),
-        (30, behind),
-        (5, 0),
-        (5, 1 - WINDOW),
-        (5, -WINDOW),
-        (3, beyond),
-    ])
+    let few = random.within(2..=8) as i64;
+    let jump = window::jump(random) as i64;
+    let late = window::lateness(random) as i64;
+    random.weighted([(30, 1), (12, few), (12, jump), (5, 0), (40, -late)])
 }

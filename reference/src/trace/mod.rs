@@ -18,6 +18,7 @@ pub use request::{Request, MAX_BODY_LENGTH, MAX_ROOM, RATE_ID};
 
 use crate::context::{self, Receiver, Sender};
 use crate::refusal::Refusal;
+use crate::replay::ReplayList;
 use std::fmt;
 
 /// What a call finds in every byte of its outgoing buffer.
@@ -111,6 +112,14 @@ impl Contexts {
                 let answer = self.call(call, packet, &mut buffer);
                 Answer::to_call(record.op, answer, buffer)
             }
+        }
+    }
+
+    /// The replay list that the call concerns: control's for control, else media's.
+    pub fn replay_list(&self, call: Call) -> &ReplayList {
+        match call {
+            Call::SendControl | Call::ReceiveControl => &self.receiver.control,
+            _ => &self.receiver.media,
         }
     }
 

@@ -5,10 +5,13 @@ use reference::context::Sender;
 use reference::index::{self, MAX_MEDIA_INDEX};
 use reference::layout::{ProtectedMedia, RtpHeader};
 use reference::refusal::Refusal;
+use reference::replay::WINDOW_LENGTH;
 use reference::settings::Cipher;
 use reference::trace::Call::{ReceiveControl, ReceiveMedia, SendControl, SendMedia};
 use reference::trace::Call::{SetUpReceiver, SetUpSender};
 use reference::trace::{FINISHED, MISFIT};
+
+const WINDOW: i128 = WINDOW_LENGTH as i128;
 
 pub const SLIPS: &[Slip] = &[
     ("H moves before the tag is checked", |d| {
@@ -57,23 +60,23 @@ pub const SLIPS: &[Slip] = &[
             session.iter_mut().for_each(|session| session.control.salt = session.media.salt);
         }
     }),
-    ("the window spans 65", |d| {
-        if d.refused(ReceiveMedia, Refusal::Old) && d.distance() == -64 {
+    ("the window spans 1,025", |d| {
+        if d.refused(ReceiveMedia, Refusal::Old) && d.distance() == -WINDOW {
             d.open_at(d.index() as u64);
         }
     }),
-    ("the window spans 63", |d| {
-        if d.finished(ReceiveMedia) && d.distance() == -63 {
+    ("the window spans 1,023", |d| {
+        if d.finished(ReceiveMedia) && d.distance() == 1 - WINDOW {
             d.refuse(Refusal::Old);
         }
     }),
-    ("the control window spans 65", |d| {
-        if d.refused(ReceiveControl, Refusal::Old) && d.control_distance() == -64 {
+    ("the control window spans 1,025", |d| {
+        if d.refused(ReceiveControl, Refusal::Old) && d.control_distance() == -WINDOW {
             *d.answer = d.control_answer();
         }
     }),
-    ("the control window spans 63", |d| {
-        if d.finished(ReceiveControl) && d.control_distance() == -63 {
+    ("the control window spans 1,023", |d| {
+        if d.finished(ReceiveControl) && d.control_distance() == 1 - WINDOW {
             d.refuse(Refusal::Old);
         }
     }),
@@ -182,7 +185,7 @@ pub const SLIPS: &[Slip] = &[
         }
     }),
     ("OLD before KEY", |d| {
-        if d.refused(ReceiveMedia, Refusal::Key) && d.distance() < -63 {
+        if d.refused(ReceiveMedia, Refusal::Key) && d.distance() <= -WINDOW {
             d.refuse(Refusal::Old);
         }
     }),

@@ -50,7 +50,7 @@ pub struct Sender {
 pub struct Window {
     pub has_highest: u32,
     pub highest: u64,
-    pub bits: u64,
+    pub words: [u64; 16],
 }
 
 #[repr(C)]
@@ -110,18 +110,18 @@ const _: () = {
     assert!(offset_of!(Sender, control_sent) == 520 && size_of::<Sender>() == 528);
     assert!(
         offset_of!(Window, highest) == 8
-            && offset_of!(Window, bits) == 16
-            && size_of::<Window>() == 24
+            && offset_of!(Window, words) == 16
+            && size_of::<Window>() == 144
     );
     assert!(offset_of!(Receiver, rollover) == 504 && offset_of!(Receiver, media) == 512);
-    assert!(offset_of!(Receiver, control) == 536 && size_of::<Receiver>() == 560);
+    assert!(offset_of!(Receiver, control) == 656 && size_of::<Receiver>() == 800);
     assert!(
         offset_of!(Answer, len) == 8
             && offset_of!(Answer, index) == 16
             && size_of::<Answer>() == 24
     );
     assert!(offset_of!(SenderSetUp, context) == 8 && size_of::<SenderSetUp>() == 536);
-    assert!(offset_of!(ReceiverSetUp, context) == 8 && size_of::<ReceiverSetUp>() == 568);
+    assert!(offset_of!(ReceiverSetUp, context) == 8 && size_of::<ReceiverSetUp>() == 808);
 };
 
 extern "C" {

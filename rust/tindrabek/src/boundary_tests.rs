@@ -3,7 +3,7 @@
 use crate::boundary::{
     tindrabek_receive_control, tindrabek_receive_media, tindrabek_receiver_set_up,
     tindrabek_send_control, tindrabek_send_media, tindrabek_sender_set_up, Profile as PlainProfile,
-    Receiver as PlainReceiver, ReceiverSetUp, Sender as PlainSender, SenderSetUp,
+    Receiver as PlainReceiver, ReceiverSetUp, Sender as PlainSender, SenderSetUp, Window,
 };
 use crate::{Profile, Receiver, Refusal, Sender, SetUp, RCC_TAG_LEN};
 use core::mem::{size_of, MaybeUninit};
@@ -145,7 +145,7 @@ fn receivers_out_of_bounds_are_refused_and_left_alone() {
     }
 }
 
-// A field that another makes void, an index or a rate, is not looked at, and a refused call does not touch it either.
+// A field that another makes void, an index, a window's words or a rate, is not looked at, and a refused call does not touch it either.
 #[test]
 fn a_senders_void_fields_are_not_looked_at() {
     let mut s = sender();
@@ -162,7 +162,8 @@ fn a_senders_void_fields_are_not_looked_at() {
 #[test]
 fn a_receivers_void_fields_are_not_looked_at() {
     let (mut s, mut r) = (sender(), receiver());
-    (r.0.media.highest, r.0.control.highest) = (u64::MAX, u64::MAX);
+    let void = Window { has_highest: 0, highest: u64::MAX, words: [u64::MAX; 16] };
+    (r.0.media, r.0.control) = (void, void);
     r.0.session.profile.rate = u16::MAX;
     let was = r.0;
     let (mut protected, mut out) = ([0; 100], [0; 100]);
@@ -170,11 +171,35 @@ fn a_receivers_void_fields_are_not_looked_at() {
     assert_eq!(r.receive_media(&protected[..sent.len], &mut []), Err(Refusal::Room));
     assert!(r.0 == was);
     assert_eq!(r.receive_media(&protected[..sent.len], &mut out).unwrap().index, 5);
-    assert_eq!((r.0.media.has_highest, r.0.media.highest), (1, 5));
+    assert!(r.0.media == marked(5, &[0]));
     assert_eq!(r.0.session.profile.rate, 0);
     let sent = s.send_control(&RTCP, &mut protected).unwrap();
     assert_eq!(r.receive_control(&protected[..sent.len], &mut out).unwrap().index, 0);
-    assert_eq!((r.0.control.has_highest, r.0.control.highest), (1, 0));
+    assert!(r.0.control == marked(0, &[0]));
+}
+
+// The window that has accepted the indices so far behind this highest one: bit k of its words, the lowest first, is for the index k behind.
+fn marked(highest: u64, behind: &[usize]) -> Window {
+    let mut words = [0; 16];
+    for back in behind {
+        words[back / 64] |= 1 << (back % 64);
+    }
+    Window { has_highest: 1, highest, words }
+}
+
+#[test]
+fn windows_hold_what_was_accepted() {
+    let (mut s, mut r) = (sender(), receiver());
+    let (mut protected, mut out) = ([0; 100], [0; 100]);
+    let behind = [1023, 64, 63, 1, 0];
+    for index in behind.map(|back| 2000 - back) {
+        let sent = s.send_media(&rtp(index as u16), &mut protected).unwrap();
+        r.receive_media(&protected[..sent.len], &mut out).unwrap();
+        s.0.control_sent = index as u64;
+        let sent = s.send_control(&RTCP, &mut protected).unwrap();
+        r.receive_control(&protected[..sent.len], &mut out).unwrap();
+    }
+    assert!(r.0.media == marked(2000, &behind) && r.0.control == marked(2000, &behind));
 }
 
 // A profile with these numbers, whose tag is on the list.

@@ -66,7 +66,7 @@ pub enum Refusal {
     Order,
     /// Media index above 2^48 - 1, or 2^31 control packets sent already.
     Spent,
-    /// Index below 0, or more than 63 behind the highest.
+    /// Index below 0, or more than 1,023 behind the highest.
     Old,
     /// Index accepted already.
     Repeat,

@@ -70,37 +70,39 @@ fn pair(set_up: &SetUp) -> (Sender, Receiver) {
     (Sender::set_up(set_up).unwrap(), Receiver::set_up(set_up, 0, None).unwrap())
 }
 
+type Settled = Result<(Vec<u8>, u64), Refusal>;
+
 // The bytes that came out, and that those behind them are as they were.
 fn written(out: &[u8], packet: Packet) -> Vec<u8> {
     assert!(out[packet.len..].iter().all(|b| *b == 0xa5));
     out[..packet.len].to_vec()
 }
 
-fn media(sender: &mut Sender, packet: &[u8]) -> Result<(Vec<u8>, u64), Refusal> {
+fn media(sender: &mut Sender, packet: &[u8]) -> Settled {
     let mut out = [0xa5; MAX_RESULT_LEN];
     let answer = sender.send_media(packet, &mut out);
     settled(answer, &out)
 }
 
-fn control(sender: &mut Sender, packet: &[u8]) -> Result<(Vec<u8>, u64), Refusal> {
+fn control(sender: &mut Sender, packet: &[u8]) -> Settled {
     let mut out = [0xa5; MAX_RESULT_LEN];
     let answer = sender.send_control(packet, &mut out);
     settled(answer, &out)
 }
 
-fn opened(receiver: &mut Receiver, packet: &[u8]) -> Result<(Vec<u8>, u64), Refusal> {
+fn opened(receiver: &mut Receiver, packet: &[u8]) -> Settled {
     let mut out = [0xa5; MAX_RESULT_LEN];
     let answer = receiver.receive_media(packet, &mut out);
     settled(answer, &out)
 }
 
-fn opened_control(receiver: &mut Receiver, packet: &[u8]) -> Result<(Vec<u8>, u64), Refusal> {
+fn opened_control(receiver: &mut Receiver, packet: &[u8]) -> Settled {
     let mut out = [0xa5; MAX_RESULT_LEN];
     let answer = receiver.receive_control(packet, &mut out);
     settled(answer, &out)
 }
 
-fn settled(answer: Result<Packet, Refusal>, out: &[u8]) -> Result<(Vec<u8>, u64), Refusal> {
+fn settled(answer: Result<Packet, Refusal>, out: &[u8]) -> Settled {
     match answer {
         Ok(packet) => Ok((written(out, packet), packet.index)),
         Err(refusal) => {
@@ -240,16 +242,58 @@ fn the_rollover_counter_goes_on() {
     }
 }
 
+// The protected packets of the indices from 0 on, all media or all control, and the call that opens them.
+struct Sent {
+    packets: Vec<Vec<u8>>,
+    open: fn(&mut Receiver, &[u8]) -> Settled,
+}
+
+impl Sent {
+    fn both_kinds(count: u16) -> [Sent; 2] {
+        let mut sender = Sender::set_up(&plain_set_up()).unwrap();
+        let packets = (0..count).map(|n| media(&mut sender, &rtp(n, b"x")).unwrap().0).collect();
+        let reports = (0..count).map(|_| control(&mut sender, &rtcp(b"abcd")).unwrap().0).collect();
+        [Sent { packets, open: opened }, Sent { packets: reports, open: opened_control }]
+    }
+
+    // The index at which the receiver opens one of them.
+    fn opened(&self, receiver: &mut Receiver, at: usize) -> Result<u64, Refusal> {
+        (self.open)(receiver, &self.packets[at]).map(|(_, index)| index)
+    }
+}
+
 #[test]
-fn the_window_covers_63_behind_the_highest() {
-    let (mut sender, mut receiver) = pair(&plain_set_up());
-    let sent: Vec<_> =
-        (0..=1000).map(|number| media(&mut sender, &rtp(number, b"x")).unwrap().0).collect();
-    assert!(opened(&mut receiver, &sent[1000]).is_ok());
-    assert_eq!(opened(&mut receiver, &sent[937]).unwrap().1, 937);
-    assert_eq!(opened(&mut receiver, &sent[936]), Err(Refusal::Old));
-    assert_eq!(opened(&mut receiver, &sent[937]), Err(Refusal::Repeat));
-    assert_eq!(opened(&mut receiver, &sent[999]).unwrap().1, 999);
+fn the_window_covers_1023_behind_the_highest() {
+    for sent in Sent::both_kinds(1026) {
+        let (_, mut receiver) = pair(&plain_set_up());
+        for (at, answer) in [
+            (1025, Ok(1025)),
+            (1, Err(Refusal::Old)),
+            (2, Ok(2)),
+            (2, Err(Refusal::Repeat)),
+            (1024, Ok(1024)),
+        ] {
+            assert_eq!(sent.opened(&mut receiver, at), answer);
+        }
+    }
+}
+
+// Steps of an odd number, modulo 1,024, come to every packet: of 1,023 from the highest down, of 65 and 389 to and fro over the window's
+// words and their bits.
+#[test]
+fn packets_out_of_order_are_each_accepted_once() {
+    for sent in Sent::both_kinds(1024) {
+        for step in [1023, 65, 389] {
+            let (_, mut receiver) = pair(&plain_set_up());
+            for at in (1..=1024).map(|turn| turn * step % 1024) {
+                assert_eq!(sent.opened(&mut receiver, at), Ok(at as u64), "steps of {step}");
+            }
+            for at in 0..1024 {
+                let again = sent.opened(&mut receiver, at);
+                assert_eq!(again, Err(Refusal::Repeat), "steps of {step}, index {at}");
+            }
+        }
+    }
 }
 
 #[test]
@@ -378,7 +422,7 @@ fn every_refusal_of_a_sender() {
 fn every_refusal_of_a_receiver() {
     let set_up = SetUp { mki: &[8], ..plain_set_up() };
     let (mut sender, mut receiver) = pair(&set_up);
-    let (protected, _) = media(&mut sender, &rtp(70, b"x")).unwrap();
+    let (protected, _) = media(&mut sender, &rtp(1030, b"x")).unwrap();
     let (report, _) = control(&mut sender, &rtcp(b"abcd")).unwrap();
     let mut out = [0xa5; MAX_RESULT_LEN];
     assert_eq!(opened(&mut receiver, &[0x80; MAX_PACKET_LEN + 12]), Err(Refusal::Long));
@@ -399,12 +443,12 @@ fn every_refusal_of_a_receiver() {
     assert_eq!(opened_control(&mut receiver, &changed(&report, 16)), Err(Refusal::Key));
     assert_eq!(opened(&mut receiver, &changed(&protected, 12)), Err(Refusal::Forged));
     assert_eq!(opened_control(&mut receiver, &changed(&report, 8)), Err(Refusal::Forged));
-    assert_eq!(opened(&mut receiver, &protected).unwrap().1, 70);
+    assert_eq!(opened(&mut receiver, &protected).unwrap().1, 1030);
     assert_eq!(opened(&mut receiver, &protected), Err(Refusal::Repeat));
     assert_eq!(opened_control(&mut receiver, &report).unwrap().1, 0);
     assert_eq!(opened_control(&mut receiver, &report), Err(Refusal::Repeat));
-    let sent: Vec<_> = (0..64).map(|_| control(&mut sender, &rtcp(b"abcd")).unwrap().0).collect();
-    assert_eq!(opened_control(&mut receiver, &sent[63]).unwrap().1, 64);
+    let sent: Vec<_> = (0..1024).map(|_| control(&mut sender, &rtcp(b"abcd")).unwrap().0).collect();
+    assert_eq!(opened_control(&mut receiver, &sent[1023]).unwrap().1, 1024);
     assert_eq!(opened_control(&mut receiver, &report), Err(Refusal::Old));
     let (old, _) = media(&mut Sender::set_up(&set_up).unwrap(), &rtp(6, b"x")).unwrap();
     assert_eq!(opened(&mut receiver, &old), Err(Refusal::Old));

@@ -2,6 +2,7 @@
 
 use super::{Answer, Link, Settings, MASTER_KEY, MASTER_SALT, PLAIN, SSRC, TAG_LENGTH};
 use reference::refusal::Refusal;
+use reference::replay::WINDOW_LENGTH;
 use std::ffi::{c_char, c_int, c_uint, c_ulong, c_void, CStr};
 use std::ptr;
 use std::sync::Once;
@@ -86,7 +87,7 @@ fn context() -> Context {
         keys: ptr::null(),
         key_count: 0,
         deprecated_ekt: ptr::null(),
-        window_size: 64,
+        window_size: WINDOW_LENGTH as c_ulong,
         allow_repeat_tx: 0,
         enciphered_extensions: ptr::null(),
         enciphered_extension_count: 0,

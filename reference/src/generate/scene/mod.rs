@@ -1,5 +1,6 @@
 //! A scene: one link, set up and used.
 
+mod jumping;
 mod receiving;
 mod sending;
 mod traffic;
@@ -23,6 +24,8 @@ enum Act {
     MakeControl,
     RepeatMedia,
     RepeatControl,
+    JumpMedia,
+    JumpControl,
     Burst,
     GoUnheard,
     CatchUp,
@@ -102,6 +105,8 @@ impl<'a> Scene<'a> {
             (10 + 60 * made, Act::MakeControl),
             (50, Act::RepeatMedia),
             (40, Act::RepeatControl),
+            (30, Act::JumpMedia),
+            (30, Act::JumpControl),
             (own, Act::Burst),
             (5 * own * reads, Act::GoUnheard),
             (6 * made * reads, Act::CatchUp),
@@ -123,6 +128,8 @@ impl<'a> Scene<'a> {
             Act::MakeControl => self.make_control(),
             Act::RepeatMedia => self.repeat(Call::ReceiveMedia),
             Act::RepeatControl => self.repeat(Call::ReceiveControl),
+            Act::JumpMedia => self.jump(Call::ReceiveMedia),
+            Act::JumpControl => self.jump(Call::ReceiveControl),
             Act::Burst => self.burst(),
             Act::GoUnheard => self.go_unheard(),
             Act::CatchUp => self.catch_up(),

@@ -1,7 +1,7 @@
 //! What a scene's receiver is given.
 
 use super::Scene;
-use crate::generate::{carried, damage, plain, targets};
+use crate::generate::{carried, damage, made, plain, targets};
 use crate::index::{self, MAX_MEDIA_INDEX};
 use crate::session::Session;
 use crate::settings::{Cipher, Integrity};
@@ -78,8 +78,7 @@ impl Scene<'_> {
 
     /// A small media packet under the receiver's set-up.
     fn small_media(&mut self, index: u64) -> Vec<u8> {
-        let plain = plain::small_media(self.random, self.values.ssrc, index::number(index));
-        self.session.made_media(&plain, index).unwrap_or(plain)
+        made::small(self.random, &self.session, Call::ReceiveMedia, index)
     }
 
     /// A control packet made for the receiver, its E bit mostly as a sender would set it.

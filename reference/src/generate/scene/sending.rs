@@ -42,11 +42,15 @@ impl Scene<'_> {
         self.traffic.of(Call::SendControl).under_way.extend(answer.packet().map(<[u8]>::to_vec));
     }
 
-    /// Sends more packets than the window spans and delivers them in any order, so that some are
-    /// too late.
+    /// Sends many packets, mostly over more numbers than the window spans, and delivers them in
+    /// any order, so that some are too late.
     pub(super) fn burst(&mut self) {
-        let count = self.random.length(65..=100);
-        let mut packets: Vec<_> = (0..count).filter_map(|_| self.send_small(1)).collect();
+        let longest_step = self.random.pick([1, 20, 60]);
+        let mut packets = Vec::new();
+        for _ in 0..self.random.length(65..=100) {
+            let step = self.random.within(1..=longest_step) as u16;
+            packets.extend(self.send_small(step));
+        }
         let reach = self.random.pick([3, 70, 100]);
         for place in 0..packets.len() {
             let other = (place + self.random.length(0..=reach)).min(packets.len() - 1);

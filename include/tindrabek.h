@@ -104,7 +104,7 @@ TINDRABEK_PLACE(tindrabek_profile, tag_len, 16);
  *  - a value off the list above: `tag_len` not 4 or 10 (0 in a closed context), or with RCCM2 not 14; a `rate` of 0 with RCCM2; `mki_len`
  *    over 4;
  *  - a mark beyond its bound: `last_index` or media `highest` above 2^48 - 1, control `highest` above 2^31 - 1, `control_sent` above 2^31
- *    (where `has_last` or `has_highest` is 0, the index that goes with it is not looked at);
+ *    (where `has_last` or `has_highest` is 0, the index that goes with it is not looked at, nor are a window's `words`);
  *  - a number that no enum has: `cipher`, `integrity`, `has_last` or `has_highest` above 1.
  * Any other is answered by the rules, with the keys and marks found in it, whether a set-up gave them or not. */
 

@@ -13,7 +13,8 @@ use lib.ListN.{length, getD, set, take, drop, replicate, length-append, length-r
 use lib.Seq.{take-all, take-suc, take-suc-set, take-at, drop-cons, drop-length, append-snoc, getD-append-add}
 use lib.Pow.{pow-pos, pow-lt}
 use lib.Bits.{bitAnd, bitOr, and-mask}
-use Rattle.replay.specs.Row.{bit, fromWords, toWords}
+use Rattle.replay.specs.Row.{bit, fromWords, toWords, wordCount}
+use Rattle.replay.specs.Window.{windowLength}
 use Rattle.replay.proofs.RowLaws.{Words, row-bit, row-set, carried, carried-is, lifted-is, shift-twice}
 
 pub fitted : (n : ℕ) → Fits w64 n → n < 2 ^ 64
@@ -23,7 +24,7 @@ fitted n f = f .fits
 pub low-bits : (k : ℕ) → bitAnd k 63 < 64
 low-bits k = omega (arith, and-mask k 6)
 
-pub one-is : set (replicate 16 0) 0 1 ≡ toWords 16 1
+pub one-is : set (replicate (wordCount windowLength) 0) 0 1 ≡ toWords (wordCount windowLength) 1
 unfolding toWords
 one-is = refl
 

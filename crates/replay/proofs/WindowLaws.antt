@@ -132,7 +132,9 @@ start-means n h = record { highest = refl; marks-are = λ i. none h i ∙ sym (a
   where
     none : (h : Highest) (i : ℕ) → marked n (windowStart h) i ≡ false
     none Absent i = refl
-    none (At k) i = rw (from-zeros (wordCount windowLength), bit-zero (k - i)) (and-false (leb i k && not (tooOld n (At k) i)))
+    none (At k) i =
+        let z : fromWords (windowStart (At k) .words) ≡ 0 = from-zeros (wordCount windowLength) in
+        rw (z, bit-zero (k - i)) (and-false (leb i k && not (tooOld n (At k) i)))
 
 pub mark-means : (n : ℕ) (w : Window) (a : Accepted) → Means n w a → (i : ℕ) → Means n (windowMark n w i) (accept a i)
 mark-means n w a s i =

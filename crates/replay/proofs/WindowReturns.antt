@@ -1,5 +1,5 @@
 -- One law for each way out of `Window::verdict`, `Window::accepting` and `Window::mark`: what the code returns there is what the
--- definition says, at length 1,024. Assumes nothing.
+-- definition says, at the length that windows have. Assumes nothing.
 use mathlib.Core.Path.{_≡_, sym, ap, _∙_}
 use mathlib.Core.Bool.{Bool, true, false, cond}
 use mathlib.Core.List.{List}
@@ -8,7 +8,7 @@ use native.Mathlib.Omega.{arith}
 use lib.Bits.{bitOr}
 use lib.ListN.{length}
 use borrow.Author.Tests.{lt-ltb, le-ltb, le-leb, lt-leb}
-use Rattle.replay.specs.Row.{bit, fromWords, toWords}
+use Rattle.replay.specs.Row.{bit, fromWords, toWords, wordCount}
 use Rattle.replay.specs.Window.{windowLength, windowVerdict, windowMark, windowMarked}
 use Rattle.replay.specs.declared.index.Highest.the-variants.{Absent, At}
 use Rattle.replay.specs.declared.window.Verdict.{Verdict}
@@ -22,21 +22,21 @@ module _ (w : Window) (i : ℕ) where
   pub verdict-first : w .highest ≡ Absent → New ≡ windowVerdict windowLength w i
   verdict-first e = rw e
 
-  pub mark-first : (ws : List ℕ) → w .highest ≡ Absent → ws ≡ toWords 16 1 → record { highest = At i; words = ws } ≡ windowMark windowLength w i
+  pub mark-first : (ws : List ℕ) → w .highest ≡ Absent → ws ≡ toWords (wordCount windowLength) 1 → record { highest = At i; words = ws } ≡ windowMark windowLength w i
   mark-first ws e d = rw (e, d)
 
   module _ (h : ℕ) (e : w .highest ≡ At h) where
     pub verdict-ahead : h < i → New ≡ windowVerdict windowLength w i
-    verdict-ahead l = rw (e, marks-above 1024 h (fromWords (w .words)) i l, lt-leb (i + 1024) h (omega arith))
+    verdict-ahead l = rw (e, marks-above windowLength h (fromWords (w .words)) i l, lt-leb (i + windowLength) h (omega arith))
 
-    pub verdict-old : i ≤ h → 1024 ≤ h - i → Old ≡ windowVerdict windowLength w i
-    verdict-old l m = rw (e, le-leb (i + 1024) h (omega arith))
+    pub verdict-old : i ≤ h → windowLength ≤ h - i → Old ≡ windowVerdict windowLength w i
+    verdict-old l m = rw (e, le-leb (i + windowLength) h (omega arith))
 
-    module _ (l : i ≤ h) (m : h - i < 1024) (x : Bool) (t : x ≡ bit (fromWords (w .words)) (h - i)) where
+    module _ (l : i ≤ h) (m : h - i < windowLength) (x : Bool) (t : x ≡ bit (fromWords (w .words)) (h - i)) where
       within : windowVerdict windowLength w i ≡ cond x Repeat New
       within =
-          let u : h < i + 1024 = omega arith in
-          rw (e, marks-within 1024 h (fromWords (w .words)) i l u, lt-leb (i + 1024) h u, ← t)
+          let u : h < i + windowLength = omega arith in
+          rw (e, marks-within windowLength h (fromWords (w .words)) i l u, lt-leb (i + windowLength) h u, ← t)
 
       pub verdict-repeat : x ≡ true → Repeat ≡ windowVerdict windowLength w i
       verdict-repeat y = rw (within, y)
@@ -44,28 +44,28 @@ module _ (w : Window) (i : ℕ) where
       pub verdict-new : x ≡ false → New ≡ windowVerdict windowLength w i
       verdict-new y = rw (within, y)
 
-    pub mark-far : (ws : List ℕ) → h < i → 1024 ≤ i - h → ws ≡ toWords 16 1 → record { highest = At i; words = ws } ≡ windowMark windowLength w i
+    pub mark-far : (ws : List ℕ) → h < i → windowLength ≤ i - h → ws ≡ toWords (wordCount windowLength) 1 → record { highest = At i; words = ws } ≡ windowMark windowLength w i
     mark-far ws l m d =
         let o : max h i ≡ i = omega arith in
-        rw (d, e, o, lt-ltb h i l, moved-out 1024 (fromWords (w .words)) (i - h) m)
+        rw (d, e, o, lt-ltb h i l, moved-out windowLength (fromWords (w .words)) (i - h) m)
 
-    pub mark-ahead : (up ws : List ℕ) → h < i → up ≡ toWords 16 (fromWords (w .words) * 2 ^ (i - h)) →
-        ws ≡ toWords 16 (bitOr (fromWords up) (2 ^ 0)) → record { highest = At i; words = ws } ≡ windowMark windowLength w i
+    pub mark-ahead : (up ws : List ℕ) → h < i → up ≡ toWords (wordCount windowLength) (fromWords (w .words) * 2 ^ (i - h)) →
+        ws ≡ toWords (wordCount windowLength) (bitOr (fromWords up) (2 ^ 0)) → record { highest = At i; words = ws } ≡ windowMark windowLength w i
     mark-ahead up ws l u d =
         let o : max h i ≡ i = omega arith in
-        rw (d, u, from-to 16 (fromWords (w .words) * 2 ^ (i - h)), e, o, lt-ltb h i l)
+        rw (d, u, from-to (wordCount windowLength) (fromWords (w .words) * 2 ^ (i - h)), e, o, lt-ltb h i l)
 
-    pub mark-old : Words (w .words) → length (w .words) ≡ 16 → i ≤ h → 1024 ≤ h - i → w ≡ windowMark windowLength w i
+    pub mark-old : Words (w .words) → length (w .words) ≡ wordCount windowLength → i ≤ h → windowLength ≤ h - i → w ≡ windowMark windowLength w i
     mark-old f n l m =
         let o : max h i ≡ h = omega arith in
-        let back : toWords 16 (fromWords (w .words)) ≡ w .words = ap (λ (k : ℕ). toWords k (fromWords (w .words))) (sym n) ∙ to-from (w .words) f in
-        rw (e, o, le-ltb h i l, le-leb (i + 1024) h (omega arith), back)
+        let back : toWords (wordCount windowLength) (fromWords (w .words)) ≡ w .words = ap (λ (k : ℕ). toWords k (fromWords (w .words))) (sym n) ∙ to-from (w .words) f in
+        rw (e, o, le-ltb h i l, le-leb (i + windowLength) h (omega arith), back)
 
-    pub mark-behind : (ws : List ℕ) → i ≤ h → h - i < 1024 → ws ≡ toWords 16 (bitOr (fromWords (w .words)) (2 ^ (h - i))) →
+    pub mark-behind : (ws : List ℕ) → i ≤ h → h - i < windowLength → ws ≡ toWords (wordCount windowLength) (bitOr (fromWords (w .words)) (2 ^ (h - i))) →
         record { highest = At h; words = ws } ≡ windowMark windowLength w i
     mark-behind ws l m d =
         let o : max h i ≡ h = omega arith in
-        rw (d, e, o, le-ltb h i l, lt-leb (i + 1024) h (omega arith))
+        rw (d, e, o, le-ltb h i l, lt-leb (i + windowLength) h (omega arith))
 
   pub mark-both : (v : Verdict) (m : Window) → v ≡ windowVerdict windowLength w i → m ≡ windowMark windowLength w i
       → record { verdict = v; next = m } ≡ windowMarked windowLength w i

@@ -4,6 +4,7 @@ ghost use Rattle.replay.specs.declared.index.Highest.the-variants.{Absen
 ghost use Rattle.replay.specs.Window.{windowLength, windowStart, windowVerdict, windowMark, windowMarked};
 use crate::index::Highest;
 use crate::row;
+use crate::row::WORDS;
 
 // What a receiver makes of an index: it is new; or refused as OLD, too far behind the highest; or refused as REPEAT, accepted already.
 pub enum Verdict {
@@ -15,7 +16,7 @@ pub enum Verdict {
 // Bit k of the row tells whether the index k below the highest was accepted. Without a highest index the bits say nothing.
 pub struct Window {
     pub highest: Highest,
-    pub words: [u64; 16],
+    pub words: [u64; WORDS],
 }
 
 // The verdict on an index, and beside it the window with the index accepted.
@@ -34,7 +35,7 @@ impl Window {
     {
         Window {
             highest: Highest::Absent,
-            words: [0; 16],
+            words: [0; WORDS],
         }
     }
 
@@ -44,7 +45,7 @@ impl Window {
     {
         Window {
             highest,
-            words: [0; 16],
+            words: [0; WORDS],
         }
     }
 

@@ -3,6 +3,8 @@ use mathlib.Core.Path.{_≡_, refl}
 use mathlib.Core.List.{_++_}
 use Prim.Native.Nat.{_-_, _≤_}
 use lib.ListN.{length, take, drop}
+use Rattle.replay.specs.Row.{wordCount}
+use Rattle.replay.specs.Window.{windowLength}
 use Rattle.replay.proofs.RowLaws.{carried}
 use Rattle.replay.proofs.RowReturns.{fitted, carry-on, carried-all}
 use borrow.Author.Needs.{needs}
@@ -11,10 +13,10 @@ use Rattle.replay.proofs.row.shifted_by_bits.Tie as tie
 
 abbrev Inv-loop : tie.InvT-loop
 Inv-loop distance words out₀ carry₀ j₀ out carry j =
-    (j ≤ 16) × (length out ≡ 16) × (take j out ++ carried distance carry (drop j words) ≡ carried distance 0 words)
+    (j ≤ wordCount windowLength) × (length out ≡ wordCount windowLength) × (take j out ++ carried distance carry (drop j words) ≡ carried distance 0 words)
 
 abbrev μ-loop : tie.MeasureT-loop
-μ-loop distance words out₀ carry₀ j₀ out carry j = 16 - j
+μ-loop distance words out₀ carry₀ j₀ out carry j = wordCount windowLength - j
 
 loop-holds : tie.Need-loop-holds Inv-loop μ-loop
 loop-holds c = (search needs, search needs, refl)

@@ -3,6 +3,8 @@ use mathlib.Core.Path.{_≡_}
 use mathlib.Core.List.{_++_}
 use Prim.Native.Nat.{_-_, _≤_}
 use lib.ListN.{length, take, replicate}
+use Rattle.replay.specs.Row.{wordCount}
+use Rattle.replay.specs.Window.{windowLength}
 use Rattle.replay.proofs.RowReturns.{fitted, lifted-none, lift-on, lifted-all}
 use borrow.Author.Needs.{needs}
 use Rattle.replay.proofs.row.shifted_by_words.Statement.{statement}
@@ -10,10 +12,10 @@ use Rattle.replay.proofs.row.shifted_by_words.Tie as tie
 
 abbrev Inv-loop : tie.InvT-loop
 Inv-loop count words out₀ j₀ out j =
-    (count ≤ j) × (j ≤ 16) × (length out ≡ 16) × (take j out ≡ take j (replicate count 0 ++ words))
+    (count ≤ j) × (j ≤ wordCount windowLength) × (length out ≡ wordCount windowLength) × (take j out ≡ take j (replicate count 0 ++ words))
 
 abbrev μ-loop : tie.MeasureT-loop
-μ-loop count words out₀ j₀ out j = 16 - j
+μ-loop count words out₀ j₀ out j = wordCount windowLength - j
 
 loop-holds : tie.Need-loop-holds Inv-loop μ-loop
 loop-holds c = (search needs, search needs, search needs, search (lifted-none, needs))

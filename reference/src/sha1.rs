@@ -6,7 +6,7 @@ pub const BLOCK_LENGTH: usize = 64;
 pub const DIGEST_LENGTH: usize = 20;
 
 /// H(0), FIPS 180-4, 5.3.1.
-const INITIAL: [u32; 5] = [0x67452301, 0xefcdab89, 0x98badcfe, 0x10325476, 0xc3d2e1f0];
+pub const INITIAL: [u32; 5] = [0x67452301, 0xefcdab89, 0x98badcfe, 0x10325476, 0xc3d2e1f0];
 
 /// Where the 64-bit length stands in the last block.
 const LENGTH_PLACE: usize = BLOCK_LENGTH - 8;

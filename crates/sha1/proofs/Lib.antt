@@ -1,4 +1,6 @@
-mod BlockLaws
+mod WordLaws
+mod ScheduleLaws
+mod RoundLaws
 mod MessageLaws
 pub mod DigestLaws
 pub mod HmacLaws

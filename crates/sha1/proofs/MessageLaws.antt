@@ -175,22 +175,22 @@ two-blocks m n i l k e =
     ∙ end-more m (toBytes 8 (8 * n)) i 56
     ∙ sym (ap₂ _++_ (zeroFilled-end m i l) (overAt-end (replicate 56 0) (replicate 8 0) (toBytes 8 (8 * n)) refl (omega arith)))
 
+pub length-last : (n : ℕ) (b : List ℕ) → length b ≡ 64 → length (overAt 56 (toBytes 8 (8 * n)) b) ≡ 64
+length-last n b l = length-overAt 56 (toBytes 8 (8 * n)) b (omega arith) ∙ l
+
+pub length-ended : (m : List ℕ) → length m < 64 → length (zeroFilled (m ++ (0x80 ∷ []))) ≡ 64
+length-ended m l = length-zeroFilled (m ++ (0x80 ∷ [])) (omega (arith, length-append m (0x80 ∷ [])))
+
 module _ (h : State) (m : List ℕ) (n : ℕ) (e : length m ≡ n % 64) where
-  length-last : (b : List ℕ) → length b ≡ 64 → length (overAt 56 (toBytes 8 (8 * n)) b) ≡ 64
-  length-last b l = length-overAt 56 (toBytes 8 (8 * n)) b (omega arith) ∙ l
-
-  length-first : length (zeroFilled (m ++ (0x80 ∷ []))) ≡ 64
-  length-first = length-zeroFilled (m ++ (0x80 ∷ [])) (omega (arith, length-append m (0x80 ∷ [])))
-
   pub hash-last : length m < 56 → compress h (overAt 56 (toBytes 8 (8 * n)) (zeroFilled (m ++ (0x80 ∷ [])))) ≡ hashAll h (m ++ padding n)
   hash-last l =
-      sym (hash-one h _ (length-last _ length-first)) ∙ ap (hashAll h) (sym (one-block m n (55 - length m) (omega arith) e))
+      sym (hash-one h _ (length-last n _ (length-ended m (omega arith)))) ∙ ap (hashAll h) (sym (one-block m n (55 - length m) (omega arith) e))
 
   pub hash-last-two : 56 ≤ length m
       → compress (compress h (zeroFilled (m ++ (0x80 ∷ [])))) (overAt 56 (toBytes 8 (8 * n)) (replicate 64 0)) ≡ hashAll h (m ++ padding n)
   hash-last-two l =
-      sym (hash-one _ _ (length-last (replicate 64 0) refl))
-      ∙ sym (hash-first h _ _ length-first)
+      sym (hash-one _ _ (length-last n (replicate 64 0) refl))
+      ∙ sym (hash-first h _ _ (length-ended m (omega arith)))
       ∙ ap (hashAll h) (sym (two-blocks m n (63 - length m) (omega arith) (omega arith) e))
 
 -- ---- the digest

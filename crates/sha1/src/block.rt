@@ -1,10 +1,11 @@
-// One block of SHA-1 (FIPS 180-4, section 6.1.2): the message schedule, the eighty rounds, the sum with the hash value before.
+// One block of SHA-1 (FIPS 180-4, section 6.1.3): the message schedule in a ring of sixteen words, the eighty rounds, the sum with the
+// hash value before. W_t stands at place t mod 16 of the ring, where W_{t-16} stood.
 ghost use mathlib.Core.Path.{_≡_};
 ghost use mathlib.Core.List.{List};
-ghost use Prim.Native.Nat.{ℕ, _+_, _*_, _≤_, _<_};
+ghost use Prim.Native.Nat.{ℕ, _+_, _-_, _*_, _%_, _≤_, _<_};
 ghost use lib.ListN.{length};
-ghost use Rattle.sha1.specs.Sha1.{add, rotl, ch, parity, maj, ft, kt, wordAt, mixed, schedule, round, rounds, sum, compress};
-ghost use Rattle.sha1.specs.Parts.{Words};
+ghost use Rattle.sha1.specs.Sha1.{add, rotl, ch, parity, maj, ft, kt, schedule, round, rounds, sum, compress};
+ghost use Rattle.sha1.specs.Parts.{Ring, mixedIn};
 use crate::State;
 
 fn add(x: u32, y: u32) -> u32
@@ -20,10 +21,11 @@ fn rotl(n: u32, x: u32) -> u32
     (x << n) | (x >> (32 - n))
 }
 
+// Ch in three operations, where the standard's form has four.
 fn ch(x: u32, y: u32, z: u32) -> u32
     ensures { λ r. ⌜ r ≡ ch x y z ⌝ }
 {
-    (x & y) ^ (!x & z)
+    z ^ (x & (y ^ z))
 }
 
 fn parity(x: u32, y: u32, z: u32) -> u32
@@ -61,17 +63,17 @@ fn round_constant(q: usize) -> u32
     }
 }
 
-// Round t, where 20 q <= t < 20 q + 20, with the word W_t.
+// Round t, where 20 q <= t < 20 q + 20, with the word W_t. `a`, which the round before gives last, is added last, when all else is ready.
 fn round(q: usize, w: u32, s: State) -> State
     ensures { λ r. ⌜ r ≡ round (20 * q) w s ⌝ }
 {
     State {
         a: add(
             add(
-                add(add(rotl(5, s.a), round_function(q, s.b, s.c, s.d)), s.e),
-                round_constant(q),
+                add(add(s.e, w), round_constant(q)),
+                round_function(q, s.b, s.c, s.d),
             ),
-            w,
+            rotl(5, s.a),
         ),
         b: s.a,
         c: rotl(30, s.b),
@@ -80,64 +82,67 @@ fn round(q: usize, w: u32, s: State) -> State
     }
 }
 
-// The twenty rounds from 20 q on.
-fn twenty_rounds(w: &[u32; 80], q: usize, s: State) -> State
-    requires { ⌜ q < 4 ⌝ }
-    ensures { λ r. ⌜ r ≡ rounds (now (w .entry)) (20 * q) 20 s ⌝ }
+// Rounds t to t + 3, written out: in a loop over single rounds the compiler adds `a` sooner, and each round waits longer for the one before.
+fn four_rounds(w: &[u32; 16], q: usize, t: usize, s: State) -> State
+    requires { ⌜ (t % 4 ≡ 0) × (20 * q ≤ t) × (t < 20 * q + 20) ⌝ }
+    ensures { λ r.
+        ⌜ ((m : List ℕ) (n : ℕ) → t + 4 ≤ n → n ≤ t + 16 → Ring m n (now (w .entry)) → r ≡ rounds (schedule m 80) t 4 s) ⌝ }
+{
+    let i = t % 16;
+    let s1 = round(q, w[i], s);
+    let s2 = round(q, w[i + 1], s1);
+    let s3 = round(q, w[i + 2], s2);
+    round(q, w[i + 3], s3)
+}
+
+// The rounds from `from` to `to` by fours, all among the twenty from 20 q on, with words that the ring holds at once.
+fn rounds(w: &[u32; 16], q: usize, from: usize, to: usize, s: State) -> State
+    requires { ⌜ (from % 4 ≡ 0) × (to % 4 ≡ 0) × (20 * q ≤ from) × (from ≤ to) × (to ≤ 20 * q + 20) ⌝ }
+    ensures { λ r.
+        ⌜ ((m : List ℕ) (n : ℕ) → to ≤ n → n ≤ from + 16 → Ring m n (now (w .entry)) → r ≡ rounds (schedule m 80) from (to - from) s) ⌝ }
 {
     let mut v = s;
-    let mut i = 0;
-    while i < 20 {
-        v = round(q, w[20 * q + i], v);
-        i += 1;
+    let mut t = from;
+    while t < to {
+        v = four_rounds(w, q, t, v);
+        t += 4;
     }
     v
 }
 
 // The sixteen words of the block `m`.
-fn load_words(w: &mut [u32; 80], m: &[u8])
-    requires { ⌜ (length (now w) ≡ 80) × (length (now m) ≡ 64) ⌝ }
-    ensures { λ _. ⌜ Words (now (m .entry)) 16 (now (w .exit)) ⌝ }
+fn load_words(m: &[u8]) -> [u32; 16]
+    requires { ⌜ length (now m) ≡ 64 ⌝ }
+    ensures { λ r. ⌜ Ring (now (m .entry)) 16 r ⌝ }
 {
+    let mut w = [0u32; 16];
     let mut t = 0;
     while t < 16 {
         w[t] = octets::load32(m, 4 * t);
         t += 1;
     }
+    w
 }
 
-fn mixed(w: &[u32; 80], t: usize) -> u32
-    requires { ⌜ (16 ≤ t) × (t < 80) ⌝ }
-    ensures { λ r. ⌜ r ≡ mixed (now (w .entry)) t ⌝ }
+// W_t from the sixteen words before it, where i = t mod 16.
+fn mixed(w: &[u32; 16], i: usize) -> u32
+    requires { ⌜ i < 16 ⌝ }
+    ensures { λ r. ⌜ r ≡ mixedIn (now (w .entry)) i ⌝ }
 {
-    rotl(1, w[t - 3] ^ w[t - 8] ^ w[t - 14] ^ w[t - 16])
+    let x = w[(i + 13) % 16] ^ w[(i + 8) % 16] ^ w[(i + 2) % 16] ^ w[i];
+    rotl(1, x)
 }
 
-// Sixteen words more: a loop that is short enough to be unrolled.
-fn sixteen_words(w: &mut [u32; 80], from: usize)
-    requires { ⌜ (16 ≤ from) × (from ≤ 64) ⌝ }
-    ensures { λ _. ⌜ ((m : List ℕ) → Words m from (now (w .entry)) → Words m (from + 16) (now (w .exit))) ⌝ }
+// The next sixteen words take the places of those before.
+fn advance(w: &mut [u32; 16])
+    ensures { λ _.
+        ⌜ ((m : List ℕ) (t : ℕ) → t % 16 ≡ 0 → 16 ≤ t → t ≤ 64 → Ring m t (now (w .entry)) → Ring m (t + 16) (now (w .exit))) ⌝ }
 {
     let mut i = 0;
     while i < 16 {
-        let t = from + i;
-        w[t] = mixed(w, t);
+        w[i] = mixed(w, i);
         i += 1;
     }
-}
-
-// The message schedule of the block `m`.
-fn schedule(m: &[u8]) -> [u32; 80]
-    requires { ⌜ length (now m) ≡ 64 ⌝ }
-    ensures { λ r. ⌜ r ≡ schedule (now (m .entry)) 80 ⌝ }
-{
-    let mut w = [0u32; 80];
-    load_words(&mut w, m);
-    sixteen_words(&mut w, 16);
-    sixteen_words(&mut w, 32);
-    sixteen_words(&mut w, 48);
-    sixteen_words(&mut w, 64);
-    w
 }
 
 fn sum(s: State, h: State) -> State
@@ -157,10 +162,18 @@ pub fn compress(h: State, m: &[u8]) -> State
     requires { ⌜ length (now m) ≡ 64 ⌝ }
     ensures { λ r. ⌜ r ≡ compress h (now (m .entry)) ⌝ }
 {
-    let w = schedule(m);
-    let s = twenty_rounds(&w, 0, h);
-    let s = twenty_rounds(&w, 1, s);
-    let s = twenty_rounds(&w, 2, s);
-    let s = twenty_rounds(&w, 3, s);
+    let mut w = load_words(m);
+    let s = rounds(&w, 0, 0, 16, h);
+    advance(&mut w); // W_16 to W_31
+    let s = rounds(&w, 0, 16, 20, s);
+    let s = rounds(&w, 1, 20, 32, s);
+    advance(&mut w); // W_32 to W_47
+    let s = rounds(&w, 1, 32, 40, s);
+    let s = rounds(&w, 2, 40, 48, s);
+    advance(&mut w); // W_48 to W_63
+    let s = rounds(&w, 2, 48, 60, s);
+    let s = rounds(&w, 3, 60, 64, s);
+    advance(&mut w); // W_64 to W_79
+    let s = rounds(&w, 3, 64, 80, s);
     sum(s, h)
 }

@@ -34,15 +34,13 @@ fn ended(a: &[u8], b: &[u8]) -> [u8; 64]
     block
 }
 
-// `block` with the length in bits of a message of `n` bytes at its end.
-fn with_length(block: [u8; 64], n: usize) -> [u8; 64]
+// Puts the length in bits of a message of `n` bytes at the end of `block`.
+fn set_length(block: &mut [u8; 64], n: usize)
     requires { ⌜ 8 * n < 2 ^ 64 ⌝ }
-    ensures { λ r. ⌜ r ≡ overAt 56 (toBytes 8 (8 * n)) block ⌝ }
+    ensures { λ _. ⌜ now (block .exit) ≡ overAt 56 (toBytes 8 (8 * n)) (now (block .entry)) ⌝ }
 {
-    let mut b = block;
     let bits = (8 * n) as u64;
-    octets::store64(&mut b, 56, bits);
-    b
+    octets::store64(block, 56, bits);
 }
 
 // The last one or two blocks of a message of `n` bytes: `a`, `b`, less than a block together, and the padding.
@@ -50,16 +48,15 @@ fn last_blocks(h: State, n: usize, a: &[u8], b: &[u8]) -> State
     requires { ⌜ (8 * n < 2 ^ 64) × (length (now a) + length (now b) ≡ n % 64) ⌝ }
     ensures { λ r. ⌜ r ≡ hashAll h ((now (a .entry) ++ now (b .entry)) ++ padding n) ⌝ }
 {
-    let block = ended(a, b);
+    let mut block = ended(a, b);
+    let mut s = h;
     let used = a.len() + b.len();
-    if used < 56 {
-        let last = with_length(block, n);
-        return compress(h, &last);
+    if used >= 56 {
+        s = compress(s, &block);
+        block = [0u8; 64];
     }
-    let s = compress(h, &block);
-    let zeros = [0u8; 64];
-    let last = with_length(zeros, n);
-    compress(s, &last)
+    set_length(&mut block, n);
+    compress(s, &block)
 }
 
 // Each whole block of `m`.

@@ -3,6 +3,7 @@
 use crate::clock::timed;
 use crate::report::{head, micros, ratio_and_spread, row};
 use crate::rounds::interleaved;
+use crate::sha1_forms::{Digest, FORMS};
 use reference::random::Random;
 use reference::sha1::{Sha1, DIGEST_LENGTH};
 use std::hint::black_box;
@@ -11,12 +12,8 @@ use std::time::Duration;
 /// A packet of 1,200 bytes, and what the tag covers of it and of one of 172 bytes, which has the
 /// rollover count behind it.
 const LENGTHS: [usize; 3] = [1200, 1204, 176];
-const ROUNDS: usize = 100;
+const ROUNDS: usize = 200;
 const DIGESTS: usize = 1000;
-
-type Digest = fn(&[u8]) -> [u8; DIGEST_LENGTH];
-
-const CONTENDERS: [Digest; 2] = [Sha1::digest, proved];
 
 #[repr(C)]
 struct ProvedDigest {
@@ -32,20 +29,28 @@ fn proved(message: &[u8]) -> [u8; DIGEST_LENGTH] {
     unsafe { tindrabek_sha1(message.as_ptr(), message.len()) }.bytes
 }
 
-/// Digests of each length, proved beside ordinary Rust.
+/// Digests of each length, proved beside ordinary Rust in several forms.
 pub fn print() {
     println!("### SHA-1 alone\n");
     println!(
-        "{ROUNDS} rounds of {DIGESTS} digests. The ratio is one of times: below 1 is faster.\n"
+        "{ROUNDS} rounds of {DIGESTS} digests. The ratio is the proved form's time to that of"
     );
-    head(&["bytes", "proved, µs", "ordinary Rust, µs", "ratio", "middle half", "all rounds"]);
+    println!("ordinary Rust in the form named: below 1 the proved one is faster.\n");
+    head(&["bytes", "proved, µs", "form", "µs", "ratio", "middle half", "all rounds"]);
+    let mut contenders: Vec<(&str, Digest)> =
+        vec![("proved", proved), ("reference/", Sha1::digest)];
+    contenders.extend(FORMS);
     for length in LENGTHS {
         let message = Random::new(length as u64).bytes(length);
-        assert_eq!(proved(&message), Sha1::digest(&message), "digest of {length} bytes");
-        let times = interleaved(ROUNDS, CONTENDERS.len(), |at| turn(CONTENDERS[at], &message));
-        let [ratio, half, all] = ratio_and_spread(&times[1], &times[0]);
-        let (own, ordinary) = (micros(&times[1], DIGESTS), micros(&times[0], DIGESTS));
-        row(&[&length.to_string(), &own, &ordinary, &ratio, &half, &all]);
+        for (name, digest) in &contenders {
+            assert_eq!(digest(&message), Sha1::digest(&message), "{length} bytes, {name}");
+        }
+        let times = interleaved(ROUNDS, contenders.len(), |at| turn(contenders[at].1, &message));
+        for ((name, _), ordinary) in contenders.iter().zip(&times).skip(1) {
+            let [ratio, half, all] = ratio_and_spread(&times[0], ordinary);
+            let (own, other) = (micros(&times[0], DIGESTS), micros(ordinary, DIGESTS));
+            row(&[&length.to_string(), &own, name, &other, &ratio, &half, &all]);
+        }
     }
     println!();
 }

@@ -11,6 +11,7 @@ mod packets;
 mod refusals;
 mod report;
 mod rounds;
+mod sha1_forms;
 mod statistics;
 
 fn main() {

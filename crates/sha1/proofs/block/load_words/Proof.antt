@@ -1,21 +1,22 @@
--- The loop's invariant: w has the first t words of the schedule.
-use mathlib.Core.Path.{_≡_}
-use Prim.Native.Nat.{_-_, _≤_}
+-- The loop's invariant: the first t words went into the ring.
+use mathlib.Core.Path.{_≡_, refl}
+use Prim.Native.Nat.{_-_, _%_, _≤_}
 use native.Mathlib.Omega.{arith}
 use borrow.Author.Needs.{needs}
-use Rattle.sha1.specs.Parts.{Words}
-use Rattle.sha1.proofs.BlockLaws.{words-none, words-load}
+use lib.ListN.{replicate}
+use Rattle.sha1.specs.Parts.{Ring}
+use Rattle.sha1.proofs.ScheduleLaws.{ring-empty, ring-load}
 use Rattle.sha1.proofs.block.load_words.Statement.{statement}
 use Rattle.sha1.proofs.block.load_words.Tie as tie
 
 abbrev Inv-loop : tie.InvT-loop
-Inv-loop w₀ m t₀ w t = (t ≤ 16) × Words m t w
+Inv-loop m w₀ t₀ w t = (t ≤ 16) × Ring m t w
 
 abbrev μ-loop : tie.MeasureT-loop
-μ-loop w₀ m t₀ w t = 16 - t
+μ-loop m w₀ t₀ w t = 16 - t
 
 loop-holds : tie.Need-loop-holds Inv-loop μ-loop
-loop-holds c = (search needs, words-none (c .before .args .m .now) (c .before .args .w .now) (c .before .pre .0))
+loop-holds c = (search needs, ring-empty (c .before .args .m .now) (replicate 16 0) refl)
 
 mul-load32 : tie.Need-mul-load32 Inv-loop μ-loop
 mul-load32 c = search needs
@@ -26,8 +27,8 @@ load32-requires c κs = search needs
 mul-w : tie.Need-mul-w Inv-loop μ-loop
 mul-w c = search needs
 
-element-write-w : tie.Need-element-write-w Inv-loop μ-loop
-element-write-w c = search needs
+array-write-w : tie.Need-array-write-w Inv-loop μ-loop
+array-write-w c = search needs
 
 add-t : tie.Need-add-t Inv-loop μ-loop
 add-t c = search needs
@@ -39,7 +40,8 @@ loop-again : tie.Need-loop-again Inv-loop μ-loop
 loop-again c =
     let l = c .before .before .loop in
     let m = c .before .before .before .before .args .m .now in
-    (omega arith, words-load m (l .w) (l .t) (c .load32 .result) (omega arith) (l .inv .1) (c .load32 .ensures .0))
+    let p : l .t ≡ l .t % 16 = omega arith in
+    (omega arith, ring-load m (l .w) (l .t) (l .t) (c .load32 .result) p (l .inv .1) (omega arith) (c .load32 .ensures .0))
 
 returns : tie.Need-returns Inv-loop μ-loop
 returns c =
@@ -57,7 +59,7 @@ load-words-spec =
     mul-load32
     load32-requires
     mul-w
-    element-write-w
+    array-write-w
     add-t
     loop-less
     loop-again

@@ -1,5 +1,5 @@
 use Rattle.sha1.specs.Sha1.{kt}
-use Rattle.sha1.proofs.BlockLaws.{kt-of, kt-far}
+use Rattle.sha1.proofs.RoundLaws.{kt-of, kt-far}
 use Rattle.sha1.proofs.block.round_constant.Statement.{statement}
 use Rattle.sha1.proofs.block.round_constant.Tie as tie
 

@@ -1,7 +1,7 @@
 use mathlib.Core.Path.{_∙_}
 use borrow.Author.Needs.{needs}
 use Rattle.sha1.specs.Sha1.{ft}
-use Rattle.sha1.proofs.BlockLaws.{ft-far}
+use Rattle.sha1.proofs.RoundLaws.{ft-far}
 use Rattle.sha1.proofs.block.round_function.Statement.{statement}
 use Rattle.sha1.proofs.block.round_function.Tie as tie
 

@@ -1,26 +1,23 @@
--- The loop's invariant: if w had the words before `from` of a block's schedule, it has those before `from` + i.
+-- The loop's invariant: if the words before W_t were in the ring, where t is a multiple of 16, those before W_{t+i} are.
 use mathlib.Core.Path.{_≡_}
 use mathlib.Core.List.{List}
-use Prim.Native.Nat.{_+_, _-_, _≤_, ℕ}
+use Prim.Native.Nat.{ℕ, _+_, _-_, _%_, _≤_}
 use native.Mathlib.Nat.{add-zero, add-assoc}
 use native.Mathlib.Omega.{arith}
 use borrow.Author.Needs.{needs}
-use Rattle.sha1.specs.Parts.{Words}
-use Rattle.sha1.proofs.BlockLaws.{words-mixed}
-use Rattle.sha1.proofs.block.sixteen_words.Statement.{statement}
-use Rattle.sha1.proofs.block.sixteen_words.Tie as tie
+use Rattle.sha1.specs.Parts.{Ring}
+use Rattle.sha1.proofs.ScheduleLaws.{ring-mixed}
+use Rattle.sha1.proofs.block.advance.Statement.{statement}
+use Rattle.sha1.proofs.block.advance.Tie as tie
 
 abbrev Inv-loop : tie.InvT-loop
-Inv-loop w₀ from i₀ w i = (i ≤ 16) × ((m : List ℕ) → Words m from w₀ → Words m (from + i) w)
+Inv-loop w₀ i₀ w i = (i ≤ 16) × ((m : List ℕ) (t : ℕ) → t % 16 ≡ 0 → 16 ≤ t → t ≤ 64 → Ring m t w₀ → Ring m (t + i) w)
 
 abbrev μ-loop : tie.MeasureT-loop
-μ-loop w₀ from i₀ w i = 16 - i
+μ-loop w₀ i₀ w i = 16 - i
 
 loop-holds : tie.Need-loop-holds Inv-loop μ-loop
-loop-holds c = (search needs, λ m e. rw add-zero e)
-
-add-t : tie.Need-add-t Inv-loop μ-loop
-add-t c = search needs
+loop-holds c = (search needs, λ m t a b d r. rw add-zero r)
 
 mixed-requires : tie.Need-mixed-requires Inv-loop μ-loop
 mixed-requires c κs = search needs
@@ -40,24 +37,26 @@ loop-less c = search needs
 loop-again : tie.Need-loop-again Inv-loop μ-loop
 loop-again c =
     let l = c .before .before .before .loop in
-    let x = c .before .before .before .before in
-    let f = x .args .from in
-    (omega arith, λ m e. rw (← add-assoc) (words-mixed m (l .w) (f + l .i) (c .mixed .result) (omega arith) (omega arith) (l .inv .1 m e) (c .mixed .ensures)))
+    let i = l .i in (
+      omega arith,
+      λ m t a b d r.
+          let p : i ≡ (t + i) % 16 = omega arith in
+          rw (← add-assoc) (ring-mixed m (l .w) (t + i) i (c .mixed .result) p (l .inv .1 m t a b d r) (omega arith) (omega arith) (c .mixed .ensures)),
+    )
 
 returns : tie.Need-returns Inv-loop μ-loop
 returns c =
     let l = c .before .loop in
     let e : l .i ≡ 16 = omega arith in
-    λ m h. rw e at (l .inv .1 m h)
+    λ m t a b d r. rw e at (l .inv .1 m t a b d r)
 
-pub sixteen-words-spec : {M : Type 1} → statement M
-sixteen-words-spec =
+pub advance-spec : {M : Type 1} → statement M
+advance-spec =
     tie.close
     (tie.spec
     Inv-loop
     μ-loop
     loop-holds
-    add-t
     mixed-requires
     mul-w
     element-write-w

@@ -2,7 +2,7 @@
 use Prim.Native.Nat.{ℕ, _+_, _-_, _%_, _^_, _≤_, _<_}
 use native.Mathlib.Omega.{arith}
 use mathlib.Core.Path.{_≡_, refl, sym, ap, subst, _∙_}
-use mathlib.Core.Bool.{Bool, true, false, cond}
+use mathlib.Core.Bool.{Bool, true, false, cond, or-false}
 use mathlib.Core.List.{List}
 use lib.IntN.{pos}
 use lib.ListN.{length}
@@ -18,21 +18,22 @@ use Rattle.replay.specs.Window.{windowLength, windowVerdict, windowStart, windo
 use Rattle.replay.specs.declared.index.Highest.{Highest}
 use Rattle.replay.specs.declared.index.Highest.the-variants.{Absent, At}
 use Rattle.replay.specs.declared.window.Window.{Window}
-use Rattle.replay.specs.declared.window.Verdict.the-variants.{New as NewIndex}
 use Rattle.replay.proofs.IndexLaws.{estimate-near}
-use Rattle.replay.proofs.AcceptedLaws.{after-highest, after-mem, unseen-new}
+use Rattle.replay.proofs.AcceptedLaws.{after-highest, after-mem, young-verdict}
 use Rattle.replay.proofs.WindowLaws.{start-means, after-means, window-is-set}
 use Rattle.srtp.specs.declared.LastNumber.{LastNumber}
 use Rattle.srtp.specs.declared.LastNumber.the-variants.{Unknown, Known}
 use Rattle.session.specs.declared.Session.{Session}
 use Rattle.srtp.specs.declared.Receiver.{Receiver}
-use Rattle.srtp.specs.Outcomes.{done}
+use Rattle.srtp.specs.declared.Answer.the-variants.{Refused}
+use Rattle.srtp.specs.declared.Refusal.the-variants.{Repeat}
+use Rattle.srtp.specs.Outcomes.{refused, done, answerOf}
 use Rattle.session.specs.Packets.{ssrcOf, cipherOf, integrityOf, tagLength, encrypts, cipheredMedia, mediaTag, cipheredControl}
 use Rattle.session.specs.SetUps.{SetUp, listed, sessionOf, settingsListed}
 use Rattle.srtp.specs.Contexts.{highestAtMost, startHighest, startReceiver, setUpReceiver, receiverListed}
 use Rattle.srtp.specs.Calls.{mediaPortion, mediaPlace, controlReceived}
-use Rattle.demands.specs.Runs.{Kind, media, control, Call, receive, receiving, after, accepted, senderOutcome}
-use Rattle.demands.specs.Words.{HasIndex, Made, hasWholeIndex, Reaches, NumberFits, acceptedAs, highestAtStart, isPacket, protected}
+use Rattle.demands.specs.Runs.{Kind, media, control, Call, receive, receiving, after, accepted, receiverAfter, senderOutcome, receiverOutcome}
+use Rattle.demands.specs.Words.{HasIndex, Made, hasWholeIndex, Reaches, WithinReach, NumberFits, acceptedAs, highestAtStart, isPacket, protected}
 use Rattle.demands.specs.Demands.{ReceiverDemand3, SenderDemand3}
 use Rattle.demands.proofs.SettingLaws.{session-listed}
 use Rattle.demands.proofs.MediaLaws.{media-twice, srtp-portion}
@@ -41,7 +42,7 @@ use Rattle.demands.proofs.PacketKinds.{sentAs, maxIndex, windowOf, mark
 use Rattle.demands.proofs.FinishedLaws.{finished, finishes}
 use Rattle.demands.proofs.WindowTurns.{turns-once}
 use Rattle.demands.proofs.ReceiverRuns.{run-kept, run-window, run-turns}
-use Rattle.demands.proofs.Opening.{Finds, opens}
+use Rattle.demands.proofs.Opening.{Finds, youngVerdict, opens}
 use Rattle.demands.proofs.SetUpLaws.{protected-is, receiver-begun}
 use Rattle.demands.proofs.Demand2.{tested, under, sender-demand2}
 
@@ -153,26 +154,29 @@ module _ (u : SetUp) (rollover : ℕ) (number : LastNumber) (w : rollover < 2 ^ 
       ∙ after-means windowLength (windowStart (h₀ k)) (start (h₀ k)) (indices k) (start-means windowLength (h₀ k)) .highest
       ∙ after-highest (start (h₀ k)) (indices k)
 
-  new-is : (k : Kind) (i : ℕ) → mem i (indices k) ≡ false → tooOld windowLength (highestOf (h₀ k) (indices k)) i ≡ false →
-      windowVerdict windowLength (windowOf k r) i ≡ NewIndex
-  new-is k i m o =
+  verdict-is : (k : Kind) (i : ℕ) → tooOld windowLength (highestOf (h₀ k) (indices k)) i ≡ false →
+      windowVerdict windowLength (windowOf k r) i ≡ youngVerdict (mem i (indices k))
+  verdict-is k i o =
       let a = start (h₀ k) in
       ap (λ (v : Window). windowVerdict windowLength v i) (window-is k) ∙ window-is-set windowLength (h₀ k) (indices k) i
-      ∙ unseen-new windowLength (acceptAll a (indices k)) i (rw (after-highest a (indices k)) o) (after-mem a (indices k) i ∙ rw m)
+      ∙ young-verdict windowLength (acceptAll a (indices k)) i (rw (after-highest a (indices k)) o)
+      ∙ ap youngVerdict (after-mem a (indices k) i ∙ or-false (mem i (indices k)))
 
   session-is : r .session ≡ sessionOf u
   session-is = run-kept r₀ earlier .session
 
-  accepts-made : (k : Kind) (p : List ℕ) (i : ℕ) (b : List ℕ) (room : ℕ) → Made k u p i b → mem i (indices k) ≡ false →
-      Reaches (hasWholeIndex k u i) rollover (highestOf (h₀ k) (indices k)) i → length p ≤ room → receive k r b room ≡ done p i (marked k r i)
+  -- what is made and within reach, where there is room: a repeat is refused as REPEAT, what is new is accepted
+  receives-made : (k : Kind) (p : List ℕ) (i : ℕ) (b : List ℕ) (room : ℕ) → Made k u p i b →
+      Reaches (hasWholeIndex k u i) rollover (highestOf (h₀ k) (indices k)) i → length p ≤ room →
+      receive k r b room ≡ cond (mem i (indices k)) (refused Repeat) (done p i (marked k r i))
   unfolding sessionOf
-  accepts-made k p i b room made new reach fits =
+  receives-made k p i b room made reach fits =
       let t = made .plain in
       let reach′ : Reaches (hasWholeIndex k u i) (r .rollover) (windowOf k r .highest) i = rw (run-kept r₀ earlier .rollover, highest-is k) reach in
       let eb : b ≡ sentAs k (r .session) p i =
       made .bytes ∙ sym (protected-is k u p i) ∙ ap (λ (s : Session). sentAs k s p i) (sym session-is) in
       ap (λ (x : List ℕ). receive k r x room) eb
-      ∙ opens k r p i room
+      ∙ opens k r p i room (mem i (indices k))
       (record {
         row1 = run-kept r₀ earlier .row1 start-listed;
         not-long = t .not-long;
@@ -180,20 +184,33 @@ module _ (u : SetUp) (rollover : ℕ) (number : LastNumber) (w : rollover < 2 ^ 
         stream = t .stream ∙ ap ssrcOf (sym session-is);
         fits = fits;
         below = below-of k p i (t .has-index);
-        new = new-is k i new (not-old (hasWholeIndex k u i) rollover _ i reach);
       })
       (finds k u r p i session-is (t .has-index) reach′)
+      (verdict-is k i (not-old (hasWholeIndex k u i) rollover _ i reach))
 
 module _ (u : SetUp) (rollover : ℕ) (number : LastNumber) where
+  -- the same of a run from set-up on
+  on-made : rollover < 2 ^ 32 → NumberFits number → (earlier : List Call) (c : Call) (p : List ℕ) (i : ℕ) (seen : Bool) → Made (c .kind) u p i (c .packet) →
+      mem i (acceptedAs u rollover number (c .kind) earlier) ≡ seen → WithinReach u rollover number (c .kind) earlier i →
+      length p ≤ length (c .buffer) →
+      receiverOutcome u rollover number earlier c
+      ≡ cond seen (refused Repeat) (done p i (marked (c .kind) (receiverAfter u rollover number earlier) i))
+  on-made w f earlier c p i seen made m reach fits =
+      let o = receiver-begun u rollover number (made .plain .ready) in
+      rw (← m, o)
+      (receives-made u rollover number w f (made .plain .ready) earlier (c .kind) p i (c .packet) (length (c .buffer)) made (rw o at reach) fits)
+
   pub receiver-demand3 : rollover < 2 ^ 32 → NumberFits number → (calls : List Call) → ReceiverDemand3 u rollover number calls
   receiver-demand3 w f calls =
       record {
         once = λ k.
             turns-once windowLength _ (acceptedAs u rollover number k calls) (run-turns k (setUpReceiver u rollover number .context) calls);
         accepts = λ earlier c later e p i made new reach fits.
-            let o = receiver-begun u rollover number (made .plain .ready) in
-            let k = c .kind in
-            let room = length (c .buffer) in
-            rw o (finishes _ (c .buffer) p i _
-            (accepts-made u rollover number w f (made .plain .ready) earlier k p i (c .packet) room made (rw o at new) (rw o at reach) fits));
+            finishes _ (c .buffer) p i _ (on-made w f earlier c p i false made new reach fits);
       }
+
+  -- and what was accepted already is refused as REPEAT, if it is within reach and the buffer has room
+  pub repeat-refused : rollover < 2 ^ 32 → NumberFits number → (earlier : List Call) (c : Call) (p : List ℕ) (i : ℕ) → Made (c .kind) u p i (c .packet) →
+      mem i (acceptedAs u rollover number (c .kind) earlier) ≡ true → WithinReach u rollover number (c .kind) earlier i →
+      length p ≤ length (c .buffer) → answerOf (receiverOutcome u rollover number earlier c) ≡ Refused Repeat
+  repeat-refused w f earlier c p i made old reach fits = ap answerOf (on-made w f earlier c p i true made old reach fits)

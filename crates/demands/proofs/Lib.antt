@@ -11,6 +11,7 @@ mod Receiving
 mod ReceiverRuns
 mod Opening
 mod SetUpLaws
+pub mod SentIndices
 pub mod Demand1
 pub mod Demand2
 pub mod Demand3

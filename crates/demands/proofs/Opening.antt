@@ -1,9 +1,9 @@
--- A receiver accepts what is made under its session, where its window takes the index for new and the buffer has room, and the packet
--- comes out. Assumes nothing.
+-- What is made under a receiver's session, where its window does not take the index for old and the buffer has room: a repeat is refused as
+-- REPEAT; what is new is accepted, and the packet comes out. Assumes nothing.
 use Prim.Native.Nat.{ℕ, _-_}
 use native.Mathlib.Omega.{arith}
-use mathlib.Core.Path.{_≡_, ap, _∙_}
-use mathlib.Core.Bool.{Bool, true, false, not}
+use mathlib.Core.Path.{_≡_, refl, ap, _∙_}
+use mathlib.Core.Bool.{Bool, true, false, cond, not}
 use mathlib.Core.List.{List}
 use lib.Dec.{eqb, ltb}
 use lib.IntN.{pos}
@@ -16,17 +16,21 @@ use Rattle.rtp.specs.Rtcp.{isRtcp, rtcpSsrc}
 use Rattle.rtp.specs.Protected.{mkiOf, tagOf, rtcpPortion, wordOf, indexWord}
 use Rattle.rtp.proofs.IndexWordLaws.{word-flag, word-index}
 use Rattle.replay.specs.Index.{maxMediaIndex}
+use Rattle.replay.specs.Window.{windowLength, windowVerdict}
+use Rattle.replay.specs.declared.window.Verdict.{Verdict}
+use Rattle.replay.specs.declared.window.Verdict.the-variants as verdict
 use Rattle.session.specs.declared.Session.{Session}
 use Rattle.srtp.specs.declared.Receiver.{Receiver}
-use Rattle.srtp.specs.Outcomes.{done}
+use Rattle.srtp.specs.declared.Refusal.the-variants as refusal
+use Rattle.srtp.specs.Outcomes.{refused, done}
 use Rattle.session.specs.Packets.{controlTagLength, cipherOf, ssrcOf, tagLength, mkiBytes, cipheredMedia, mediaTag, srtp, encrypts, cipheredControl, controlPortion, controlTag, srtcp}
 use Rattle.session.specs.SetUps.{settingsListed}
 use Rattle.srtp.specs.Calls.{maxPacketLength, isOld, isRepeat, mediaPortion, mediaPlace, mediaIndex, receiveMediaRows, mediaOpened, receiveMedia, controlReceived, controlIndex, receiveControlRows, controlOpened, receiveControl}
 use Rattle.demands.specs.Runs.{Kind, media, control, receive}
-use Rattle.demands.proofs.RowLaws.{none, _also_, rows-pass}
+use Rattle.demands.proofs.RowLaws.{none, _also_, this, _beside_, rows-one}
 use Rattle.demands.proofs.MediaLaws.{media-twice, media-length, media-rtp, media-number, media-ssrc, srtp-portion, srtp-mki, srtp-tag}
 use Rattle.demands.proofs.ControlLaws.{control-twice, control-length, control-rtcp, control-ssrc, srtcp-portion, srtcp-mki, srtcp-tag, portion-text, portion-word}
-use Rattle.demands.proofs.PacketKinds.{sentAs, marked, Admits}
+use Rattle.demands.proofs.PacketKinds.{sentAs, windowOf, marked, Admits}
 use Rattle.demands.proofs.ReceiverRuns.{receiver-settings}
 
 -- the index that the receiver finds is i: for media by number and tag; for control it is in the packet
@@ -34,10 +38,23 @@ abbrev pub Finds : Kind → Receiver → (packet : List ℕ) → (index : ℕ) �
 Finds media r p i = mediaPlace r (sequenceNumber p) (mediaTag (r .session) (cipheredMedia (r .session) p i) i) ≡ pos i
 Finds control r p i = Unit {0}
 
-module _ (r : Receiver) (p : List ℕ) (i room : ℕ) where
-  opens-media : Admits media r p i room → Finds media r p i → receiveMedia r (srtp (r .session) p i) room ≡ done p i (marked media r i)
+-- the window's verdict on an index that is not old, and its rows
+abbrev pub youngVerdict : Bool → Verdict
+youngVerdict seen = cond seen verdict.Repeat verdict.New
+
+young : (seen : Bool) → isOld (youngVerdict seen) ≡ false
+young true = refl
+young false = refl
+
+repeated : (seen : Bool) → isRepeat (youngVerdict seen) ≡ seen
+repeated true = refl
+repeated false = refl
+
+module _ (r : Receiver) (p : List ℕ) (i room : ℕ) (seen : Bool) where
+  opens-media : Admits media r p i room → Finds media r p i → windowVerdict windowLength (r .media) i ≡ youngVerdict seen →
+      receiveMedia r (srtp (r .session) p i) room ≡ cond seen (refused refusal.Repeat) (done p i (marked media r i))
   unfolding receiveMedia
-  opens-media h f =
+  opens-media h f v =
       let s : Session = r .session in
       let c : List ℕ = cipheredMedia s p i in
       let b : List ℕ = srtp s p i in
@@ -58,13 +75,15 @@ module _ (r : Receiver) (p : List ℕ) (i room : ℕ) where
       let forged : not (same (tagOf (tagLength s) b) (mediaTag s (mediaPortion s b) i)) ≡ false =
       rw (a, srtp-tag s p i g) (ap not (same-refl (mediaTag s c i))) in
       rw index
-      (rows-pass {rs = receiveMediaRows r b room (pos i)} (mediaOpened r b i)
-      (setup also long also shape also stream also short also key also spent also ap isOld (h .new) also ap isRepeat (h .new) also forged also none)
+      (rows-one {rs = receiveMediaRows r b room (pos i)} seen (mediaOpened r b i)
+      (setup beside long beside shape beside stream beside short beside key beside spent beside ap isOld v ∙ young seen
+      beside this (ap isRepeat v ∙ repeated seen) refl (forged also none))
       ∙ rw (a, media-twice s i p (h .shape)))
 
-  opens-control : (e : Bool) → Admits control r p i room → receiveControl r (srtcp (r .session) e p i) room ≡ done p i (marked control r i)
+  opens-control : (e : Bool) → Admits control r p i room → windowVerdict windowLength (r .control) i ≡ youngVerdict seen →
+      receiveControl r (srtcp (r .session) e p i) room ≡ cond seen (refused refusal.Repeat) (done p i (marked control r i))
   unfolding receiveControl
-  opens-control e h =
+  opens-control e h v =
       let s : Session = r .session in
       let f : List ℕ = controlPortion s e p i in
       let c : List ℕ = cipheredControl s e p i in
@@ -87,11 +106,13 @@ module _ (r : Receiver) (p : List ℕ) (i room : ℕ) where
       let forged : not (same (tagOf controlTagLength b) (controlTag s (controlReceived s b))) ≡ false =
       rw (a, srtcp-tag s e p i) (ap not (same-refl (controlTag s f))) in
       rw index
-      (rows-pass {rs = receiveControlRows r b room i} (controlOpened r b i)
-      (setup also long also shape also stream also short also key also ap isOld (h .new) also ap isRepeat (h .new) also forged also none)
+      (rows-one {rs = receiveControlRows r b room i} seen (controlOpened r b i)
+      (setup beside long beside shape beside stream beside short beside key beside ap isOld v ∙ young seen
+      beside this (ap isRepeat v ∙ repeated seen) refl (forged also none))
       ∙ rw (a, t, w, word-flag e i, control-twice s i e p (h .shape)))
 
-pub opens : (k : Kind) (r : Receiver) (p : List ℕ) (i room : ℕ) → Admits k r p i room → Finds k r p i →
-    receive k r (sentAs k (r .session) p i) room ≡ done p i (marked k r i)
-opens media r p i room h f = opens-media r p i room h f
-opens control r p i room h f = opens-control r p i room (encrypts (cipherOf (r .session))) h
+pub opens : (k : Kind) (r : Receiver) (p : List ℕ) (i room : ℕ) (seen : Bool) → Admits k r p i room → Finds k r p i →
+    windowVerdict windowLength (windowOf k r) i ≡ youngVerdict seen →
+    receive k r (sentAs k (r .session) p i) room ≡ cond seen (refused refusal.Repeat) (done p i (marked k r i))
+opens media r p i room seen h f v = opens-media r p i room seen h f v
+opens control r p i room seen h f v = opens-control r p i room seen (encrypts (cipherOf (r .session))) h v

@@ -6,9 +6,8 @@ use mathlib.Core.List.{List}
 use lib.ListN.{length}
 use Rattle.rtp.specs.Protected.{wordOf, eFlag, tagOf}
 use Rattle.replay.specs.Index.{maxMediaIndex, maxControlIndex}
-use Rattle.replay.specs.Window.{windowLength, windowVerdict, windowMark}
+use Rattle.replay.specs.Window.{windowLength, windowMark}
 use Rattle.replay.specs.declared.window.Window.{Window}
-use Rattle.replay.specs.declared.window.Verdict.the-variants.{New}
 use Rattle.session.specs.declared.Session.{Session}
 use Rattle.srtp.specs.declared.Receiver.{Receiver}
 use Rattle.session.specs.Packets.{controlTagLength, cipherOf, ssrcOf, tagLength, mediaTag, srtp, encrypts, controlTag, srtcp}
@@ -48,7 +47,7 @@ marked control r i =
     record { session = r .session; rollover = r .rollover; media = r .media; control = windowMark windowLength (r .control) i }
 
 -- the rows on context, packet and index of a receiver r let the packet p at index i pass: all but KEY and FORGED, which are on the bytes
--- behind it
+-- behind it, and OLD and REPEAT, which are the window's
 pub record Admits (k : Kind) (r : Receiver) (p : List ℕ) (i room : ℕ) : Type 0 where
   pub row1 : receiverListed r ≡ true
   pub not-long : length p ≤ maxPacketLength
@@ -56,4 +55,3 @@ pub record Admits (k : Kind) (r : Receiver) (p : List ℕ) (i room : ℕ) : Type
   pub stream : packetSsrc k p ≡ ssrcOf (r .session)
   pub fits : length p ≤ room
   pub below : i ≤ maxIndex k
-  pub new : windowVerdict windowLength (windowOf k r) i ≡ New

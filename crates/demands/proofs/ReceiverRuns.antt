@@ -84,10 +84,10 @@ step media media r b room (refused n) e = still
 step media control r b room (refused n) e = still
 step control media r b room (refused n) e = still
 step control control r b room (refused n) e = still
-step media media r b room (done p i r′) e = let h = accepts media r b room p i r′ e in rw (h .next) (moves i (h .admits .new))
+step media media r b room (done p i r′) e = let h = accepts media r b room p i r′ e in rw (h .next) (moves i (h .new))
 step media control r b room (done p i r′) e = rw (accepts control r b room p i r′ e .next) still
 step control media r b room (done p i r′) e = rw (accepts media r b room p i r′ e .next) still
-step control control r b room (done p i r′) e = let h = accepts control r b room p i r′ e in rw (h .next) (moves i (h .admits .new))
+step control control r b room (done p i r′) e = let h = accepts control r b room p i r′ e in rw (h .next) (moves i (h .new))
 
 call-step : (k : Kind) (r : Receiver) (c : Call) →
     Step (windowOf k r) (windowOf k (nextOf (receiving r c) r)) (acceptedBy k (c .kind) (answerOf (receiving r c)))

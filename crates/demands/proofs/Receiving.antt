@@ -32,11 +32,12 @@ use Rattle.demands.specs.Words.{HasIndex}
 use Rattle.demands.proofs.RowLaws.{NoneHolds, none, _also_, rows-done}
 use Rattle.demands.proofs.MediaLaws.{media-length, media-rtp, media-number, media-ssrc, srtp-back}
 use Rattle.demands.proofs.ControlLaws.{control-length, control-rtcp, control-ssrc, srtcp-back}
-use Rattle.demands.proofs.PacketKinds.{ReadAs, TaggedAs, marked, Admits}
+use Rattle.demands.proofs.PacketKinds.{ReadAs, TaggedAs, windowOf, marked, Admits}
 
 -- the call on r accepts b at i, p comes out, and r′ is left
 pub record Accepts (k : Kind) (r : Receiver) (b : List ℕ) (room : ℕ) (p : List ℕ) (i : ℕ) (r′ : Receiver) : Type 0 where
   pub admits : Admits k r p i room
+  pub new : windowVerdict windowLength (windowOf k r) i ≡ New
   pub tagged : TaggedAs k (r .session) b i
   pub has-index : Bytes b → HasIndex k p i
   pub bytes : Bytes b → ReadAs k (r .session) b p i
@@ -86,8 +87,8 @@ media-accepts r b room k p i r′ n
         stream = rw e₂ (media-ssrc s i a g ∙ eqb-true _ _ (not-false _ stream));
         fits = rw (e₂, media-length s i a g) (ltb-false _ _ short);
         below = rw e₁ at (x .below);
-        new = rw e₁ at (x .new);
       };
+      new = rw e₁ at (x .new);
       tagged = rw e₁ at tag;
       has-index = λ q.
           let l = number-lt a (portion-bytes _ _ b q) in (
@@ -121,8 +122,8 @@ control-accepts r b room k p i r′ n
         stream = rw e₂ (control-ssrc s i x c g ∙ eqb-true _ _ (not-false _ stream));
         fits = rw (e₂, control-length s i x c g) (ltb-false _ _ short);
         below = most;
-        new = rw e₁ at new;
       };
+      new = rw e₁ at new;
       tagged = tag;
       has-index = λ q. most;
       bytes = λ q. rw e₂ (rw (n, e₁) at (srtcp-back s b q a refl g mki tag));

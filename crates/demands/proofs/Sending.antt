@@ -2,7 +2,7 @@
 use Prim.Native.Nat.{ℕ, _+_, _-_, _%_, _≤_, _<_}
 use native.Mathlib.Omega.{arith}
 use mathlib.Core.Path.{_≡_, refl, sym, ap, _∙_}
-use mathlib.Core.Bool.{true, _&&_}
+use mathlib.Core.Bool.{true, false, _&&_}
 use mathlib.Core.List.{List}
 use lib.Dec.{leb}
 use lib.ListN.{length}
@@ -11,8 +11,10 @@ use Rattle.octets.specs.BigEndian.{Bytes}
 use Rattle.rtp.specs.Rtp.{sequenceNumber}
 use Rattle.rtp.proofs.AnswerLaws.{both}
 use Rattle.rtp.proofs.RtpLaws.{number-lt}
-use Rattle.replay.specs.Index.{maxMediaIndex, maxControlPackets, nextIndex}
-use Rattle.replay.proofs.IndexLaws.{sent-number}
+use Rattle.replay.specs.Index.{maxMediaIndex, maxControlPackets, nextIndex, outOfOrder, mediaAfter}
+use Rattle.replay.specs.declared.index.LastSent.{LastSent}
+use Rattle.replay.specs.declared.index.LastSent.the-variants as last
+use Rattle.replay.proofs.IndexLaws.{sent-number, sent-rises, sent-near}
 use Rattle.srtp.specs.declared.Sender.{Sender}
 use Rattle.srtp.specs.Outcomes.{Outcome, done, nextOf}
 use Rattle.session.specs.Packets.{controlTagLength, cipherOf, ssrcOf, tagLength, mkiBytes, srtp, srtcp, encrypts}
@@ -26,6 +28,16 @@ use Rattle.demands.proofs.MediaLaws.{length-srtp}
 use Rattle.demands.proofs.ControlLaws.{length-srtcp}
 use Rattle.demands.proofs.PacketKinds.{sentAs}
 
+-- the first media index is the packet's number, a later one is past the last by less than 32,768
+abbrev pub Past : LastSent → (number index : ℕ) → Type 0
+Past last.Nothing q i = q ≡ i
+Past (last.At l) q i = (l < i) × (i < l + 32768)
+
+-- it becomes the last one; sending control leaves that as it is
+abbrev pub Turns : Kind → Sender → (packet : List ℕ) → (index : ℕ) → Sender → Type 0
+Turns media s p i s′ = Past (s .media .last) (sequenceNumber p) i × (s′ .media ≡ mediaAfter i)
+Turns control s p i s′ = s′ .media ≡ s .media
+
 -- the call on s finishes b of the packet p at i, and leaves s′
 pub record Sends (k : Kind) (s : Sender) (p : List ℕ) (room : ℕ) (b : List ℕ) (i : ℕ) (s′ : Sender) : Type 0 where
   pub settings : settingsListed (s .session .settings) ≡ true
@@ -35,12 +47,17 @@ pub record Sends (k : Kind) (s : Sender) (p : List ℕ) (room : ℕ) (b : List �
   pub has-index : Bytes p → HasIndex k p i
   pub bytes : b ≡ sentAs k (s .session) p i
   pub fits : length b ≤ room
+  pub turns : Turns k s p i s′
   pub session-kept : s′ .session ≡ s .session
 
 sender-settings : (s : Sender) → senderListed s ≡ true → settingsListed (s .session .settings) ≡ true
 unfolding senderListed
 sender-settings s g =
     both (settingsListed (s .session .settings)) (lastAtMost maxMediaIndex (s .media .last) && leb (s .control .sent) maxControlPackets) g .0
+
+next-past : (l : LastSent) (q i : ℕ) → nextIndex l q ≡ i → outOfOrder l q ≡ false → Past l q i
+next-past last.Nothing q i e o = e
+next-past (last.At l) q i e o = (rw e at (sent-rises l q o), rw e at (sent-near l q o))
 
 media-sends : (s : Sender) (p : List ℕ) (room : ℕ) (b : List ℕ) (k i : ℕ) (s′ : Sender) →
     nextIndex (s .media .last) (sequenceNumber p) ≡ k → NoneHolds (sendMediaRows s p room) → mediaSent s p k ≡ done b i s′ →
@@ -61,6 +78,10 @@ media-sends s p room b k i s′ n (setup also long also shape also stream also s
           (sent-number (s .media .last) (sequenceNumber p) (number-lt p q) ∙ ap (λ (j : ℕ). j % 65536) (n ∙ e₁), rw (n, e₁) at m);
       bytes = e₂;
       fits = omega (arith, ap length e₂, length-srtp (s .session) p i g r, l);
+      turns = (
+        next-past (s .media .last) (sequenceNumber p) i (n ∙ e₁) order,
+        sym (ap (λ (o : Outcome Sender). nextOf o s .media) e) ∙ ap mediaAfter e₁,
+      );
       session-kept = sym (ap (λ (o : Outcome Sender). nextOf o s .session) e);
     }
 
@@ -81,6 +102,7 @@ control-sends s p room b i s′ (setup also long also shape also stream also sho
       has-index = λ q. omega (arith, m, e₁);
       bytes = e₂;
       fits = omega (arith, ap length e₂, length-srtcp (s .session) x p i r, l);
+      turns = sym (ap (λ (o : Outcome Sender). nextOf o s .media) e);
       session-kept = sym (ap (λ (o : Outcome Sender). nextOf o s .session) e);
     }
 

@@ -3,6 +3,7 @@
 use Prim.Native.Nat.{ℕ}
 use mathlib.Core.List.{List, [], _∷_, _++_}
 use lib.ListN.{length}
+use Rattle.octets.specs.BigEndian.{Bytes}
 use Rattle.srtp.specs.declared.Answer.{Answer}
 use Rattle.srtp.specs.declared.Answer.the-variants.{Sent, Refused}
 use Rattle.srtp.specs.declared.LastNumber.{LastNumber}
@@ -55,6 +56,11 @@ senderOutcome u earlier c = sending (senderAfter u earlier) c
 abbrev pub receiverOutcome : SetUp → (rollover : ℕ) → LastNumber → (earlier : List Call) → Call → Outcome Receiver
 receiverOutcome u rollover number earlier c = receiving (receiverAfter u rollover number earlier) c
 
+-- what the calls of a list are given are bytes, as the types of the code have it
+abbrev pub BytesIn : List Call → Type 0
+BytesIn [] = Unit {0}
+BytesIn (c ∷ cs) = Bytes (c .packet) × BytesIn cs
+
 -- ---- the indices that calls accept (01: let in), the earliest first
 -- an answer with a finished packet gives one index, a refusal none
 abbrev pub indexIn : Answer → List ℕ
@@ -71,3 +77,11 @@ acceptedBy control control a = indexIn a
 abbrev pub accepted : Kind → Receiver → List Call → List ℕ
 accepted k r [] = []
 accepted k r (c ∷ cs) = acceptedBy k (c .kind) (answerOf (receiving r c)) ++ accepted k (nextOf (receiving r c) r) cs
+
+-- ---- the indices that a sender's calls finish (01: sent), the earliest first
+abbrev pub sent : Kind → Sender → List Call → List ℕ
+sent k s [] = []
+sent k s (c ∷ cs) = acceptedBy k (c .kind) (answerOf (sending s c)) ++ sent k (nextOf (sending s c) s) cs
+
+abbrev pub sentBy : SetUp → Kind → List Call → List ℕ
+sentBy u k cs = sent k (setUpSender u .context) cs

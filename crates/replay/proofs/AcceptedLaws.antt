@@ -1,7 +1,7 @@
 -- Laws of a set of accepted indices and of its highest index H, which never falls. Assumes nothing.
 use mathlib.Core.Path.{_≡_, refl, sym, ap, _∙_}
 use mathlib.Core.Logic.{_⊎_, inl, inr}
-use mathlib.Core.Bool.{Bool, true, false, _||_, or-assoc, or-comm, true≢false}
+use mathlib.Core.Bool.{Bool, true, false, cond, _||_, or-assoc, or-comm, true≢false}
 use mathlib.Core.List.{List, [], _∷_}
 use Prim.Native.Nat.{ℕ, _+_, _≤_, _<_, max}
 use native.Mathlib.Omega.{arith}
@@ -11,7 +11,7 @@ use Rattle.replay.specs.Index.{Near}
 use Rattle.replay.specs.Accepted.{mem, Accepted, tooOld, judged, verdict, raise, accept, acceptAll, highestOf, AtMost}
 use Rattle.replay.specs.declared.index.Highest.{Highest}
 use Rattle.replay.specs.declared.index.Highest.the-variants.{Absent, At}
-use Rattle.replay.specs.declared.window.Verdict.the-variants.{New}
+use Rattle.replay.specs.declared.window.Verdict.the-variants.{New, Repeat}
 
 -- ---- H
 -- H never falls: what is at most H, as H itself is, stays at most H
@@ -95,5 +95,6 @@ new-unseen n a i = go (tooOld n (a .highest) i) (mem i (a .indices))
     go false true e = cc
     go false false e = refl
 
-pub unseen-new : (n : ℕ) (a : Accepted) (i : ℕ) → tooOld n (a .highest) i ≡ false → mem i (a .indices) ≡ false → verdict n a i ≡ New
-unseen-new n a i o m = rw (o, m)
+-- what is not too old is a repeat or new
+pub young-verdict : (n : ℕ) (a : Accepted) (i : ℕ) → tooOld n (a .highest) i ≡ false → verdict n a i ≡ cond (mem i (a .indices)) Repeat New
+young-verdict n a i o = rw o

@@ -142,6 +142,14 @@ sent-rises i q = go (eqb (ahead i q) 0) refl
     go true e o = absurd (true≢false o)
     go false e o = let z : ahead i q ≡ 0 → ⊥ = eqb-false _ _ e in omega (arith, z)
 
+-- and by less than 32,768
+pub sent-near : (i q : ℕ) → outOfOrder (last.At i) q ≡ false → nextIndex (last.At i) q < i + 32768
+sent-near i q = go (eqb (ahead i q) 0)
+  where
+    go : (b : Bool) → (b || leb 32768 (ahead i q)) ≡ false → i + ahead i q < i + 32768
+    go true o = absurd (true≢false o)
+    go false o = let z : ahead i q < 32768 = leb-false _ _ o in omega (arith, z)
+
 -- what the answers say of the tests
 abbrev pub MediaAs : LastSent → (number : ℕ) → NextIndex → Type 0
 MediaAs l q (next.Index i) = (outOfOrder l q ≡ false) × (nextIndex l q ≡ i) × (i ≤ maxMediaIndex)

@@ -1,0 +1,6 @@
+pub mod FirstLaws
+pub mod EventLaws
+pub mod WholeEvening
+pub mod OnePacket
+pub mod InOrder
+mod Witness

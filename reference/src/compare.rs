@@ -3,6 +3,7 @@
 use crate::corners::Corners;
 use crate::coverage::Coverage;
 use crate::describe;
+use crate::evening::{judge, Evening, Tally};
 use crate::trace::{Answer, Contexts, Record, Records};
 use std::io::{self, Read, Write};
 use std::path::Path;
@@ -15,9 +16,9 @@ const TOLD: usize = 5;
 /// What comparisons have shown so far.
 #[derive(Default)]
 pub struct Report {
-    /// Answers that agree in every byte.
+    /// Answers that agree in every byte, and evenings that hold.
     pub passed: u64,
-    /// Answers that differ or are missing, and runs that ended badly.
+    /// Answers that differ or are missing, runs that ended badly, and what is wrong with evenings.
     pub failed: u64,
     /// The first differences, in hex and in words.
     pub differences: Vec<String>,
@@ -25,18 +26,45 @@ pub struct Report {
     pub coverage: Coverage,
     /// The corners met.
     pub corners: Corners,
+    /// What whole evenings have shown. Their calls are in neither of the two above.
+    pub evenings: Tally,
 }
 
 impl Report {
     /// Compares the answers to one trace with the reference's.
     pub fn compare(&mut self, trace: &[u8], answers: &[u8]) {
         let mut contexts = Contexts::default();
+        self.compare_each(trace, answers, |report, record| {
+            let before = contexts.clone();
+            let expected = contexts.answer(record);
+            report.coverage.count(&expected);
+            report.corners.count(&before, record, &expected);
+            expected
+        });
+    }
+
+    /// Compares the answers to one evening with the reference's, and judges them.
+    pub fn compare_evening(&mut self, evening: &Evening, answers: &[u8]) {
+        let mut contexts = Contexts::default();
+        self.compare_each(&evening.trace, answers, |_, record| contexts.answer(record));
+        let verdict = judge(evening, answers);
+        self.evenings.add(&verdict.tally);
+        self.passed += u64::from(verdict.holds());
+        for told in verdict.broken.iter().chain(&verdict.faults) {
+            self.fail(|| format!("whole evening: {told}"));
+        }
+    }
+
+    /// Compares each answer with the one that is expected.
+    fn compare_each(
+        &mut self,
+        trace: &[u8],
+        answers: &[u8],
+        mut expect: impl FnMut(&mut Report, &Record) -> Answer,
+    ) {
         let mut rest = answers;
         for (place, record) in Records::new(trace).enumerate() {
-            let before = contexts.clone();
-            let expected = contexts.answer(&record);
-            self.coverage.count(&expected);
-            self.corners.count(&before, &record, &expected);
+            let expected = expect(self, &record);
             let (given, later) = split_answer(rest, &expected);
             rest = later;
             if given == expected.to_bytes() {
@@ -52,18 +80,31 @@ impl Report {
 
     /// Runs a program on a trace and compares its answers.
     pub fn compare_program(&mut self, program: &Path, trace: &[u8]) -> io::Result<()> {
-        let (answers, status) = run(program, trace)?;
+        let answers = self.answers_of(program, trace)?;
         self.compare(trace, &answers);
+        Ok(())
+    }
+
+    /// Runs a program on an evening, compares its answers and judges them.
+    pub fn judge_program(&mut self, program: &Path, evening: &Evening) -> io::Result<()> {
+        let answers = self.answers_of(program, &evening.trace)?;
+        self.compare_evening(evening, &answers);
+        Ok(())
+    }
+
+    fn answers_of(&mut self, program: &Path, trace: &[u8]) -> io::Result<Vec<u8>> {
+        let (answers, status) = run(program, trace)?;
         if !status.success() {
             self.fail(|| format!("the program ended with {status}"));
         }
-        Ok(())
+        Ok(answers)
     }
 
     /// The reachable outcomes and the corners that were not met. Each counts as failed.
     pub fn gaps(&self) -> Vec<String> {
         let mut gaps = self.coverage.gaps();
         gaps.extend(self.corners.gaps());
+        gaps.extend(self.evenings.gaps());
         gaps
     }
 

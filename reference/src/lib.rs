@@ -3,8 +3,8 @@
 //!
 //! It is written from the standards alone, for reading beside them: AES by tables of words,
 //! SHA-1, HMAC, key derivation, packet layouts, and contexts whose replay window is a plain set
-//! of accepted indices. Above it stand the trace format, a maker of random traces, and the
-//! comparison with another program's answers.
+//! of accepted indices. Above it stand the trace format, a maker of random traces, the comparison
+//! with another program's answers, and a property of whole evenings that these are judged by.
 //!
 //! | standard | modules |
 //! |---|---|
@@ -23,6 +23,7 @@ pub mod counter_mode;
 pub mod coverage;
 pub mod derive;
 pub mod describe;
+pub mod evening;
 pub mod generate;
 pub mod hmac;
 pub mod index;

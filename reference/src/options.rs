@@ -30,4 +30,13 @@ impl Options {
         let value = self.values.get(name).ok_or_else(|| format!("--{name} is missing"))?;
         value.parse().map_err(|_| format!("--{name} can't be {value}"))
     }
+
+    /// The value of an option that may be left out.
+    pub fn get_or<T: FromStr>(&self, name: &str, default: T) -> Result<T, String> {
+        if self.values.contains_key(name) {
+            self.get(name)
+        } else {
+            Ok(default)
+        }
+    }
 }

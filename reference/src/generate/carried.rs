@@ -17,7 +17,7 @@ fn at_or_before(index: u64, rate: u16) -> u64 {
 
 /// The nearest one after an index: of the same count, or number 0 of the next. Beyond the last
 /// index it is the last one.
-fn after(index: u64, rate: u16) -> u64 {
+pub fn after(index: u64, rate: u16) -> u64 {
     let next = rollover_after(index).min(at_or_before(index, rate) + u64::from(rate));
     at_or_before(next.min(MAX_MEDIA_INDEX), rate)
 }

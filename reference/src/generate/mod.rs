@@ -1,4 +1,4 @@
-//! Traces: random ones and sweeps from a seed, and the example.
+//! Traces: random ones, sweeps and whole evenings from a seed, and the example.
 //!
 //! A random trace is a row of scenes. A scene sets up a sender and a receiver on one link and then
 //! mixes good packets with lost, late, repeated, damaged and strange ones, and with jumps over the
@@ -16,11 +16,13 @@ mod scene;
 mod set_ups;
 mod sweep;
 mod targets;
+mod whole_evening;
 mod window;
 mod window_sweep;
 
 pub use evening::evening;
 pub use sweep::set_up_sweep;
+pub use whole_evening::whole_evening;
 pub use window_sweep::window_sweep;
 
 use crate::random::Random;

@@ -12,6 +12,14 @@ use reference::trace::{Answer, Call, Contexts, Record, Request, BUFFER_FILL, FIN
 /// A slip: its name, and what it does to a call.
 pub type Slip = (&'static str, fn(&mut Done));
 
+/// Answers a record with a slip.
+pub fn slipped(contexts: &mut Contexts, record: &Record, slip: impl Fn(&mut Done)) -> Answer {
+    let before = contexts.clone();
+    let mut answer = contexts.answer(record);
+    slip(&mut Done::new(record, &before, contexts, &mut answer));
+    answer
+}
+
 /// A call that the reference has answered. A slip changes the answer or the contexts that are
 /// left.
 pub struct Done<'a> {

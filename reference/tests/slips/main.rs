@@ -6,18 +6,10 @@ mod rfc3711;
 mod rfc4771;
 mod window;
 
-use done::Done;
+use done::{slipped, Done};
 use reference::generate::{make_trace, window_sweep};
 use reference::trace::Call::{ReceiveControl, ReceiveMedia};
-use reference::trace::{Answer, Contexts, Record, Records};
-
-/// Answers a record with a slip.
-fn slipped(contexts: &mut Contexts, record: &Record, slip: impl Fn(&mut Done)) -> Answer {
-    let before = contexts.clone();
-    let mut answer = contexts.answer(record);
-    slip(&mut Done::new(record, &before, contexts, &mut answer));
-    answer
-}
+use reference::trace::{Contexts, Records};
 
 /// How many records it takes until the answers differ.
 fn records_until_found(trace: &[u8], slip: impl Fn(&mut Done)) -> Option<usize> {

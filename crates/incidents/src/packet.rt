@@ -82,23 +82,53 @@ fn send_into(s: Sender, number: u16, out: &mut [u8]) -> Sender {
     after.next
 }
 
+// What receiving gave: the answer, whether it let in the packet that was sent, and the next context.
+pub struct Received {
+    pub answer: Answer,
+    pub as_sent: bool,
+    pub next: Receiver,
+}
+
 // Receives what was sent as the packet with this number, and compares what comes out with it.
-fn receive_from(r: Receiver, number: u16, packet: &[u8]) -> Receiver {
+pub fn open_media(r: Receiver, number: u16, packet: &[u8]) -> Received {
     let mut out = [0u8; 16];
     let after = r.receive_media(packet, &mut out);
     let answer = after.answer;
-    say::received(number, answer);
+    let next = after.next;
     let p = plain(number);
-    compare(answer, &p, &out);
-    after.next
+    let as_sent = as_sent(answer, &p, &out);
+    Received {
+        answer,
+        as_sent,
+        next,
+    }
+}
+
+// Whether a packet was let in and is the one that was sent.
+fn as_sent(answer: Answer, sent: &[u8], opened: &[u8]) -> bool {
+    let Answer::Sent { len, index: _ } = answer else {
+        return false;
+    };
+    if len != sent.len() {
+        return false;
+    }
+    octets::same(sent, opened)
+}
+
+fn receive_from(r: Receiver, number: u16, packet: &[u8]) -> Receiver {
+    let received = open_media(r, number, packet);
+    let answer = received.answer;
+    say::received(number, answer);
+    compare(answer, received.as_sent);
+    received.next
 }
 
 // Says so where a packet was let in and is not the one that was sent.
-fn compare(answer: Answer, sent: &[u8], opened: &[u8]) {
+fn compare(answer: Answer, as_sent: bool) {
     let Answer::Sent { len: _, index: _ } = answer else {
         return;
     };
-    if !octets::same(sent, opened) {
+    if !as_sent {
         words::line(b"  but it came out as another packet");
     }
 }
@@ -113,7 +143,7 @@ pub fn receive(r: Receiver, number: u16, packet: &[u8; 26]) -> Receiver {
 }
 
 // A control packet: a report with nothing in it.
-fn report() -> [u8; 8] {
+pub fn report() -> [u8; 8] {
     [0x80, 201, 0, 1, 0xca, 0xfe, 0xba, 0xbe]
 }
 
@@ -126,14 +156,26 @@ pub fn send_control(s: Sender, out: &mut [u8; 22]) -> Sender {
     after.next
 }
 
-pub fn receive_control(r: Receiver, packet: &[u8; 22]) -> Receiver {
+pub fn open_control(r: Receiver, packet: &[u8]) -> Received {
     let mut out = [0u8; 8];
     let after = r.receive_control(packet, &mut out);
     let answer = after.answer;
-    say::received_control(answer);
+    let next = after.next;
     let p = report();
-    compare(answer, &p, &out);
-    after.next
+    let as_sent = as_sent(answer, &p, &out);
+    Received {
+        answer,
+        as_sent,
+        next,
+    }
+}
+
+pub fn receive_control(r: Receiver, packet: &[u8; 22]) -> Receiver {
+    let received = open_control(r, packet);
+    let answer = received.answer;
+    say::received_control(answer);
+    compare(answer, received.as_sent);
+    received.next
 }
 
 // A sender and the receiver at the other end.

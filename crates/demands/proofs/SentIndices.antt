@@ -77,7 +77,7 @@ abbrev pub IsStep : Highest → (index : ℕ) → Type 0
 IsStep highest.Absent i = i < 65536
 IsStep (highest.At h) i = (h < i) × (i < h + 32768)
 
-abbrev EachStep : Highest → List ℕ → Type 0
+abbrev pub EachStep : Highest → List ℕ → Type 0
 EachStep h [] = Unit {0}
 EachStep h (i ∷ is) = IsStep h i × EachStep (raise h i) is
 
@@ -107,9 +107,9 @@ run-steps s [] b = tt
 run-steps s (c ∷ cs) b =
     call-steps (c .kind) s (c .packet) (length (c .buffer)) (sending s c) refl (b .0) _ (run-steps (nextOf (sending s c) s) cs (b .1))
 
-at-place : (h : Highest) (before : List ℕ) (i : ℕ) (later : List ℕ) → EachStep h (before ++ (i ∷ later)) → IsStep (highestOf h before) i
-at-place h [] i later f = f .0
-at-place h (j ∷ before) i later f = at-place (raise h j) before i later (f .1)
+pub step-at : (h : Highest) (before : List ℕ) (i : ℕ) (later : List ℕ) → EachStep h (before ++ (i ∷ later)) → IsStep (highestOf h before) i
+step-at h [] i later f = f .0
+step-at h (j ∷ before) i later f = step-at (raise h j) before i later (f .1)
 
 nothing-sent : (u : SetUp) → setUpSender u .context .media .last ≡ Nothing
 unfolding setUpSender closedSender
@@ -119,9 +119,6 @@ nothing-sent u = go (listed u) refl
     go true g = rw g
     go false g = rw g
 
-pub sent-steps : (u : SetUp) (run : List Call) → BytesIn run → (before : List ℕ) (i : ℕ) (later : List ℕ) →
-    sentBy u media run ≡ before ++ (i ∷ later) → IsStep (highestOf highest.Absent before) i
-sent-steps u run b before i later e =
-    let f = run-steps (setUpSender u .context) run b in
-    let f′ : EachStep highest.Absent (sentBy u media run) = subst (λ (l : LastSent). EachStep (lastIndex l) (sentBy u media run)) (nothing-sent u) f in
-    at-place highest.Absent before i later (subst (λ (is : List ℕ). EachStep highest.Absent is) e f′)
+pub sent-steps : (u : SetUp) (run : List Call) → BytesIn run → EachStep highest.Absent (sentBy u media run)
+sent-steps u run b =
+    subst (λ (l : LastSent). EachStep (lastIndex l) (sentBy u media run)) (nothing-sent u) (run-steps (setUpSender u .context) run b)

@@ -53,14 +53,15 @@ pub firsts-mem : (xs : List ℕ) (i : ℕ) → mem i (firsts xs) ≡ mem i xs
 firsts-mem xs i = or-comm false (mem i (firsts xs)) ∙ behind-mem [] xs i ∙ or-comm (mem i xs) false
 
 -- ---- the same highest
-abbrev Below : List ℕ → Highest → Type 0
+-- h is at least each of these
+abbrev pub Below : List ℕ → Highest → Type 0
 Below seen h = (m : ℕ) → mem m seen ≡ true → AtMost m h
 
 raise-same : (h : Highest) (i : ℕ) → AtMost i h → raise h i ≡ h
 raise-same Absent i l = absurd l
 raise-same (At k) i l = ap At (omega arith)
 
-below-raised : (seen : List ℕ) (h : Highest) (i : ℕ) → Below seen h → Below (i ∷ seen) (raise h i)
+pub below-raised : (seen : List ℕ) (h : Highest) (i : ℕ) → Below seen h → Below (i ∷ seen) (raise h i)
 below-raised seen h i l m = go h (eqb m i) refl (l m)
   where
     go : (h : Highest) (b : Bool) → eqb m i ≡ b → (mem m seen ≡ true → AtMost m h) → (b || mem m seen) ≡ true → AtMost m (raise h i)

@@ -1,6 +1,6 @@
 -- The whole evening (02, No. 14): a sender's run, what a receiver under the same set-up gets of it in the course of an evening, and what it
 -- accepts. Proved of every set-up, with and without RFC 4771's transform, of every run and of every evening (`whole-evening`,
--- `plain-evening` in proofs/WholeEvening; `in-order` in proofs/InOrder). Assumes nothing.
+-- `plain-evening` in proofs/WholeEvening; `nothing-lost` in proofs/InOrder). Assumes nothing.
 use Prim.Native.Nat.{ℕ, _+_, _≤_, _<_}
 use mathlib.Core.Path.{_≡_}
 use mathlib.Core.Logic.{_⊎_}
@@ -90,20 +90,30 @@ KeepsUp whole rollover (At h) i = Behind h i ⊎ Ahead whole h i
 KeepsUp false rollover Absent i = Carries i rollover
 KeepsUp true rollover Absent i = Unit {0}
 
+-- each genuine delivery keeps up with the highest genuine index delivered so far; `whole` says of an index whether its packet has all of it
+-- in it
+abbrev pub EachKeepsUp : {u : SetUp} {run : List Call} → (whole : ℕ → Bool) → (rollover : ℕ) → (evening : List (Event u run)) → Type 0
+EachKeepsUp {u} {run} whole rollover evening =
+    (before : List (Event u run)) (g : Genuine u run) (d : List ℕ) → Comes evening before (genuine g d) →
+    KeepsUp (whole (g .index)) rollover (highestOf Absent (delivered before)) (g .index)
+
+-- the buffer always has room
+abbrev pub HasRoom : {u : SetUp} {run : List Call} → (evening : List (Event u run)) → Type 0
+HasRoom {u} {run} evening =
+    (before : List (Event u run)) (g : Genuine u run) (d : List ℕ) → Comes evening before (genuine g d) → length (packetOf g) ≤ length d
+
+-- every strange string received as media is refused
 abbrev pub IsRefused : {S : Type 0} → Outcome S → Type 0
 IsRefused o = (n : Refusal) × (answerOf o ≡ Refused n)
 
--- of an evening; `whole` says of an index whether its packet has all of it in it
+abbrev pub StrangeRefused : {u : SetUp} {run : List Call} → (rollover : ℕ) → (evening : List (Event u run)) → Type 0
+StrangeRefused {u} {run} rollover evening =
+    (before : List (Event u run)) (b d : List ℕ) → Comes evening before (strange b d) → IsRefused (outcomeOf rollover before (strange b d))
+
 pub record Supposed (whole : ℕ → Bool) (u : SetUp) (rollover : ℕ) (run : List Call) (evening : List (Event u run)) : Type 0 where
-  -- each genuine delivery keeps up with the highest genuine index delivered so far
-  pub keeps-up : (before : List (Event u run)) (g : Genuine u run) (d : List ℕ) → Comes evening before (genuine g d) →
-      KeepsUp (whole (g .index)) rollover (highestOf Absent (delivered before)) (g .index)
-  -- the buffer always has room
-  pub room : (before : List (Event u run)) (g : Genuine u run) (d : List ℕ) → Comes evening before (genuine g d) →
-      length (packetOf g) ≤ length d
-  -- every strange string received as media is refused
-  pub strange-refused : (before : List (Event u run)) (b d : List ℕ) → Comes evening before (strange b d) →
-      IsRefused (outcomeOf rollover before (strange b d))
+  pub keeps-up : EachKeepsUp whole rollover evening
+  pub room : HasRoom evening
+  pub strange-refused : StrangeRefused rollover evening
 
 -- ---- what is shown: the media indices accepted are precisely those delivered, each at its first delivery, with the packet that was sent
 -- of a list of indices each where it comes first
@@ -134,7 +144,8 @@ WholeEvening u rollover run evening = Supposed (hasWholeIndex media u) u rollove
 abbrev pub PlainEvening : (u : SetUp) (rollover : ℕ) (run : List Call) → List (Event u run) → Type 0
 PlainEvening u rollover run evening = Supposed (λ i. false) u rollover run evening → Shown u rollover run evening
 
--- ---- a part of what is supposed holds by itself: where nothing is lost and nothing overtakes, up to some place in the run, each delivery keeps
--- up with a receiver that was started with rollover counter 0, whatever else comes between
+-- ---- nothing is lost and nothing overtakes, up to some place in the sender's run: what is delivered is what was sent, one after the other.
+-- Then each delivery keeps up by itself with a receiver started with rollover counter 0, whatever comes between (`in-order`), and what was
+-- sent is what is accepted (`nothing-lost`)
 abbrev pub InOrder : (u : SetUp) (run : List Call) → List (Event u run) → Type 0
 InOrder u run evening = (later : List ℕ) × (sentBy u media run ≡ delivered evening ++ later)

@@ -9,6 +9,8 @@ use Rattle.replay.specs.declared.index.LastSent.{LastSent}
 use Rattle.replay.specs.declared.index.LastSent.the-variants as last
 use Rattle.replay.specs.declared.index.Highest.{Highest}
 use Rattle.replay.specs.declared.index.Highest.the-variants as highest
+use Rattle.sha1.specs.declared.State.{State}
+use Rattle.transforms.specs.declared.SessionKeys.{SessionKeys}
 use Rattle.transforms.specs.declared.Cipher.{Cipher}
 use Rattle.transforms.specs.declared.Cipher.the-variants.{Aes, Null}
 use Rattle.transforms.specs.declared.Integrity.{Integrity}
@@ -20,8 +22,6 @@ use Rattle.srtp.specs.declared.Refusal.the-variants.{Setup}
 use Rattle.srtp.specs.Contexts.{closedSender, closedReceiver, senderListed, receiverListed}
 use Rattle.srtp.specs.Outcomes.{refused}
 use Rattle.srtp.specs.Calls.{sendMedia, sendControl, receiveMedia, receiveControl}
-use Rattle.srtp_c.specs.declared.HashState.{HashState}
-use Rattle.srtp_c.specs.declared.Keys.{Keys}
 use Rattle.srtp_c.specs.declared.Profile.{Profile}
 use Rattle.srtp_c.specs.declared.Session.{Session}
 use Rattle.srtp_c.specs.declared.Window.{Window}
@@ -116,11 +116,11 @@ module _ (packet : List ℕ) (room : ℕ) where
     unnamed-receive-control = ap (λ (s : Receiver). receiveControl s packet room) closed-receiver
 
 -- ---- the closed context is all zeros
-abbrev zeroState : HashState
+abbrev zeroState : State
 zeroState = record { a = 0; b = 0; c = 0; d = 0; e = 0 }
 
-abbrev zeroKeys : Keys
-zeroKeys = record { round = replicate 44 0; inner = zeroState; outer = zeroState; salt = replicate 14 0 }
+abbrev zeroKeys : SessionKeys
+zeroKeys = record { round = replicate 44 0; tag = record { inner = zeroState; outer = zeroState }; salt = replicate 14 0 }
 
 abbrev zeroProfile : Profile
 zeroProfile = record { cipher = 0; integrity = 0; rate = 0; «tag_len» = 0 }

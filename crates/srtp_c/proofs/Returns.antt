@@ -5,13 +5,11 @@ use mathlib.Core.List.{List}
 use mathlib.Core.Path.{_≡_, refl, ap, _∙_}
 use borrow.Author.Tests.{eq-eqb, ne-eqb, not-true, not-false}
 use lib.Dec.{eqb}
-use Rattle.sha1.specs.declared.State.{State}
 use Rattle.replay.specs.declared.index.LastSent.{LastSent}
 use Rattle.replay.specs.declared.index.Highest.{Highest}
 use Rattle.replay.specs.declared.window.Window as core-window
 use Rattle.transforms.specs.declared.Cipher.{Cipher}
 use Rattle.transforms.specs.declared.Integrity.{Integrity}
-use Rattle.transforms.specs.declared.SessionKeys.{SessionKeys}
 use Rattle.srtp.specs.declared.Answer as core-answer
 use Rattle.srtp.specs.declared.Answer.the-variants.{Sent, Refused}
 use Rattle.srtp.specs.declared.LastNumber.{LastNumber}
@@ -28,15 +26,13 @@ use Rattle.srtp.specs.Contexts.{closedSender, closedReceiver, setUpSender, setU
 use Rattle.srtp.specs.Outcomes.{Outcome, refused, done, answerOf, nextOf, bufferOf}
 use Rattle.srtp.specs.Refusals.{numberOf}
 use Rattle.srtp_c.specs.declared.Answer.{Answer}
-use Rattle.srtp_c.specs.declared.HashState.{HashState}
-use Rattle.srtp_c.specs.declared.Keys.{Keys}
 use Rattle.srtp_c.specs.declared.Profile.{Profile}
 use Rattle.srtp_c.specs.declared.Session.{Session}
 use Rattle.srtp_c.specs.declared.Sender.{Sender}
 use Rattle.srtp_c.specs.declared.Window.{Window}
 use Rattle.srtp_c.specs.declared.Receiver.{Receiver}
 use Rattle.srtp_c.specs.Plain.{twoCased, cipherOf, cipherNumber, integrityOf, integrityNumber, integrityRate}
-use Rattle.srtp_c.specs.Plain.{profileNamed, profileOf, plainProfile, stateOf, plainState, keysOf, plainKeys, sessionOf, plainSession}
+use Rattle.srtp_c.specs.Plain.{profileNamed, profileOf, plainProfile, sessionOf, plainSession}
 use Rattle.srtp_c.specs.Plain.{lastOf, hasLast, lastIndex, senderNamed, senderOf, plainSender}
 use Rattle.srtp_c.specs.Plain.{highestOf, hasHighest, highestIndex, windowOf, plainWindow, receiverNamed, receiverOf, plainReceiver}
 use Rattle.srtp_c.specs.Boundary.{plainAnswer, plainNext, Shows, nextFor, Turned}
@@ -57,7 +53,7 @@ module _ (x y z : Bool) (e : x ≡ y) where
   pub and-yes : not x ≡ false → (w : Bool) → w ≡ z → w ≡ (y && z)
   and-yes h w f = rw (← e, not-false x h) f
 
--- ---- profiles, keys and sessions
+-- ---- profiles and sessions
 pub profile-of : (p : Profile) (x : Cipher) (i : Integrity) → x ≡ cipherOf (p .cipher) → i ≡ integrityOf (p .integrity) (p .rate)
     → record { cipher = x; integrity = i; «tag_len» = p .«tag_len» } ≡ profileOf p
 profile-of p x i e f = rw (e, f)
@@ -67,31 +63,26 @@ pub plain-profile : (p : core-profile.Profile) (x i r : ℕ)
     → record { cipher = x; integrity = i; rate = r; «tag_len» = p .«tag_len» } ≡ plainProfile p
 plain-profile p x i r e f g = rw (e, f, g)
 
-pub keys-of : (k : Keys) (i o : State) → i ≡ stateOf (k .inner) → o ≡ stateOf (k .outer)
-    → record { round = k .round; tag = record { inner = i; outer = o }; salt = k .salt } ≡ keysOf k
-keys-of k i o e f = rw (e, f)
+pub session-of : (s : Session) (p : core-profile.Profile) → p ≡ profileOf (s .profile)
+    → record {
+      settings = record { profile = p; ssrc = s .ssrc; mki = s .mki; «mki_len» = s .«mki_len» };
+      media = s .media;
+      control = s .control;
+    }
+    ≡ sessionOf s
+session-of s p e = rw e
 
-pub plain-keys : (k : SessionKeys) (i o : HashState) → i ≡ plainState (k .tag .inner) → o ≡ plainState (k .tag .outer)
-    → record { round = k .round; inner = i; outer = o; salt = k .salt } ≡ plainKeys k
-plain-keys k i o e f = rw (e, f)
-
-pub session-of : (s : Session) (p : core-profile.Profile) (m c : SessionKeys)
-    → p ≡ profileOf (s .profile) → m ≡ keysOf (s .media) → c ≡ keysOf (s .control)
-    → record { settings = record { profile = p; ssrc = s .ssrc; mki = s .mki; «mki_len» = s .«mki_len» }; media = m; control = c } ≡ sessionOf s
-session-of s p m c e f g = rw (e, f, g)
-
-pub plain-session : (s : core-session.Session) (p : Profile) (m c : Keys)
-    → p ≡ plainProfile (s .settings .profile) → m ≡ plainKeys (s .media) → c ≡ plainKeys (s .control)
+pub plain-session : (s : core-session.Session) (p : Profile) → p ≡ plainProfile (s .settings .profile)
     → record {
       profile = p;
       ssrc = s .settings .ssrc;
       mki = s .settings .mki;
       «mki_len» = s .settings .«mki_len»;
-      media = m;
-      control = c;
+      media = s .media;
+      control = s .control;
     }
     ≡ plainSession s
-plain-session s p m c e f g = rw (e, f, g)
+plain-session s p e = rw e
 
 -- ---- senders
 module _ (c : Sender) (b : Bool) (e : b ≡ senderNamed c) where

@@ -3,13 +3,11 @@
 use Prim.Native.Nat.{ℕ}
 use mathlib.Core.Bool.{Bool, cond, _&&_}
 use lib.Dec.{eqb, leb}
-use Rattle.sha1.specs.declared.State.{State}
 use Rattle.replay.specs.declared.index.LastSent.{LastSent}
 use Rattle.replay.specs.declared.index.LastSent.the-variants as last
 use Rattle.replay.specs.declared.index.Highest.{Highest}
 use Rattle.replay.specs.declared.index.Highest.the-variants as highest
 use Rattle.replay.specs.declared.window.Window as core-window
-use Rattle.transforms.specs.declared.SessionKeys.{SessionKeys}
 use Rattle.transforms.specs.declared.Cipher.{Cipher}
 use Rattle.transforms.specs.declared.Cipher.the-variants.{Aes, Null}
 use Rattle.transforms.specs.declared.Integrity.{Integrity}
@@ -19,8 +17,6 @@ use Rattle.session.specs.declared.Session as core-session
 use Rattle.srtp.specs.declared.Sender as core-sender
 use Rattle.srtp.specs.declared.Receiver as core-receiver
 use Rattle.srtp.specs.Contexts.{closedSender, closedReceiver}
-use Rattle.srtp_c.specs.declared.HashState.{HashState}
-use Rattle.srtp_c.specs.declared.Keys.{Keys}
 use Rattle.srtp_c.specs.declared.Profile.{Profile}
 use Rattle.srtp_c.specs.declared.Session.{Session}
 use Rattle.srtp_c.specs.declared.Sender.{Sender}
@@ -71,7 +67,7 @@ abbrev pub highestIndex : Highest → ℕ
 highestIndex highest.Absent = 0
 highestIndex (highest.At i) = i
 
--- ---- profiles, keys and sessions
+-- ---- profiles and sessions
 -- whether each number of an enum is one
 abbrev pub profileNamed : Profile → Bool
 profileNamed p = twoCased (p .cipher) && twoCased (p .integrity)
@@ -88,24 +84,12 @@ plainProfile p =
       «tag_len» = p .«tag_len»;
     }
 
-abbrev pub stateOf : HashState → State
-stateOf s = record { a = s .a; b = s .b; c = s .c; d = s .d; e = s .e }
-
-abbrev pub plainState : State → HashState
-plainState s = record { a = s .a; b = s .b; c = s .c; d = s .d; e = s .e }
-
-abbrev pub keysOf : Keys → SessionKeys
-keysOf k = record { round = k .round; tag = record { inner = stateOf (k .inner); outer = stateOf (k .outer) }; salt = k .salt }
-
-abbrev pub plainKeys : SessionKeys → Keys
-plainKeys k = record { round = k .round; inner = plainState (k .tag .inner); outer = plainState (k .tag .outer); salt = k .salt }
-
 abbrev pub sessionOf : Session → core-session.Session
 sessionOf s =
     record {
       settings = record { profile = profileOf (s .profile); ssrc = s .ssrc; mki = s .mki; «mki_len» = s .«mki_len» };
-      media = keysOf (s .media);
-      control = keysOf (s .control);
+      media = s .media;
+      control = s .control;
     }
 
 abbrev pub plainSession : core-session.Session → Session
@@ -115,8 +99,8 @@ plainSession s =
       ssrc = s .settings .ssrc;
       mki = s .settings .mki;
       «mki_len» = s .settings .«mki_len»;
-      media = plainKeys (s .media);
-      control = plainKeys (s .control);
+      media = s .media;
+      control = s .control;
     }
 
 -- ---- senders. A struct is a context where each number of an enum has a case, and else stands for the closed one.

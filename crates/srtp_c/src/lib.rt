@@ -4,24 +4,7 @@ mod calls;
 mod exports;
 mod plain;
 
-// The five words of a SHA-1 state.
-#[repr(C)]
-pub struct HashState {
-    pub a: u32,
-    pub b: u32,
-    pub c: u32,
-    pub d: u32,
-    pub e: u32,
-}
-
-// The session keys of media or of control: the round keys, HMAC's key as two states, the salt.
-#[repr(C)]
-pub struct Keys {
-    pub round: [u32; 44],
-    pub inner: HashState,
-    pub outer: HashState,
-    pub salt: [u8; 14],
-}
+use transforms::SessionKeys;
 
 // A protection profile. `cipher` is 0 for NULL and 1 for AES; `integrity` is 0 for HMAC-SHA1, where `rate` is not looked at, and 1 for RFC
 // 4771's mode RCCm2 at that rate.
@@ -33,15 +16,15 @@ pub struct Profile {
     pub tag_len: usize,
 }
 
-// What packets are protected under. The MKI is the first `mki_len` bytes of `mki`.
+// What packets are protected under. The MKI is the first `mki_len` bytes of `mki`. Session keys hold no enum and are the core's own.
 #[repr(C)]
 pub struct Session {
     pub profile: Profile,
     pub ssrc: u32,
     pub mki: [u8; 4],
     pub mki_len: usize,
-    pub media: Keys,
-    pub control: Keys,
+    pub media: SessionKeys,
+    pub control: SessionKeys,
 }
 
 // `last_index` is the media index used last if `has_last` is 1; with 0 no media packet was sent.

@@ -4,11 +4,9 @@ ghost use mathlib.Core.Path.{_≡_};
 ghost use mathlib.Core.Bool.{_&&_};
 ghost use Rattle.srtp.specs.Refusals.{numberOf};
 ghost use Rattle.srtp_c.specs.Plain.{twoCased, cipherOf, cipherNumber, integrityOf, integrityNumber, integrityRate};
-ghost use Rattle.srtp_c.specs.Plain.{profileNamed, profileOf, plainProfile, stateOf, plainState, keysOf, plainKeys, sessionOf, plainSession};
+ghost use Rattle.srtp_c.specs.Plain.{profileNamed, profileOf, plainProfile, sessionOf, plainSession};
 ghost use Rattle.srtp_c.specs.Plain.{lastOf, hasLast, lastIndex, senderOf, plainSender};
 ghost use Rattle.srtp_c.specs.Plain.{highestOf, hasHighest, highestIndex, windowOf, plainWindow, receiverNamed, receiverOf, plainReceiver};
-use crate::HashState;
-use crate::Keys;
 use crate::Profile;
 use crate::Receiver;
 use crate::Sender;
@@ -144,7 +142,7 @@ pub(crate) fn number_of(refusal: Refusal) -> u32
     refusal.number() as u32
 }
 
-// ---- profiles, keys and sessions
+// ---- profiles and sessions
 
 impl Profile {
     // Whether each number of an enum is one.
@@ -188,67 +186,6 @@ impl Profile {
     }
 }
 
-impl HashState {
-    fn to_core(self) -> sha1::State
-        ensures { λ r. ⌜ r ≡ stateOf self ⌝ }
-    {
-        sha1::State {
-            a: self.a,
-            b: self.b,
-            c: self.c,
-            d: self.d,
-            e: self.e,
-        }
-    }
-
-    fn from_core(state: sha1::State) -> HashState
-        ensures { λ r. ⌜ r ≡ plainState state ⌝ }
-    {
-        HashState {
-            a: state.a,
-            b: state.b,
-            c: state.c,
-            d: state.d,
-            e: state.e,
-        }
-    }
-}
-
-impl Keys {
-    fn to_core(self) -> transforms::SessionKeys
-        ensures { λ r. ⌜ r ≡ keysOf self ⌝ }
-    {
-        let round = self.round;
-        let inner = self.inner;
-        let outer = self.outer;
-        let salt = self.salt;
-        transforms::SessionKeys {
-            round,
-            tag: sha1::HmacKey {
-                inner: inner.to_core(),
-                outer: outer.to_core(),
-            },
-            salt,
-        }
-    }
-
-    fn from_core(keys: transforms::SessionKeys) -> Keys
-        ensures { λ r. ⌜ r ≡ plainKeys keys ⌝ }
-    {
-        let round = keys.round;
-        let tag = keys.tag;
-        let inner = tag.inner;
-        let outer = tag.outer;
-        let salt = keys.salt;
-        Keys {
-            round,
-            inner: HashState::from_core(inner),
-            outer: HashState::from_core(outer),
-            salt,
-        }
-    }
-}
-
 impl Session {
     fn to_core(self) -> session::Session
         ensures { λ r. ⌜ r ≡ sessionOf self ⌝ }
@@ -264,8 +201,8 @@ impl Session {
                 mki,
                 mki_len: self.mki_len,
             },
-            media: media.to_core(),
-            control: control.to_core(),
+            media,
+            control,
         }
     }
 
@@ -282,8 +219,8 @@ impl Session {
             ssrc: settings.ssrc,
             mki,
             mki_len: settings.mki_len,
-            media: Keys::from_core(media),
-            control: Keys::from_core(control),
+            media,
+            control,
         }
     }
 }

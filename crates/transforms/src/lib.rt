@@ -12,7 +12,8 @@ pub use tag::control_tag;
 pub use tag::media_tag;
 
 // The session keys of one direction, media or control, ready for use: the expanded cipher key, the salt, and what HMAC keeps of the
-// authentication key (its two hash values; the key itself is not needed again).
+// authentication key (its two hash values; the key itself is not needed again). Its layout is C's, so that an exported context can hold it.
+#[repr(C)]
 pub struct SessionKeys {
     pub round: [u32; 44],
     pub tag: sha1::HmacKey,

@@ -6,15 +6,8 @@ use Rattle.srtp_c.proofs.Session.from_core.Tie as tie
 from-core-requires : tie.Need-from-core-requires
 from-core-requires c κs = search needs
 
-from-core-requires-2 : tie.Need-from-core-requires-2
-from-core-requires-2 c κs = search needs
-
-from-core-requires-3 : tie.Need-from-core-requires-3
-from-core-requires-3 c κs = search needs
-
 returns : tie.Need-returns
 returns c = search plain-session
 
 pub from-core-spec : {M : Type 1} → statement M
-from-core-spec =
-    tie.close (tie.spec from-core-requires from-core-requires-2 from-core-requires-3 returns)
+from-core-spec = tie.close (tie.spec from-core-requires returns)

@@ -50,7 +50,7 @@ impl Window {
     }
 
     // What the receiver makes of this index.
-    fn verdict(self, index: u64) -> Verdict
+    pub fn verdict(self, index: u64) -> Verdict
         ensures { λ r. ⌜ r ≡ windowVerdict windowLength self index ⌝ }
     {
         let highest = self.highest;

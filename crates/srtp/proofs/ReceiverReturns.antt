@@ -10,13 +10,12 @@ use lib.ListN.{length, take}
 use Rattle.octets.specs.Buffer.{over}
 use Rattle.octets.specs.Equal.{same}
 use Rattle.replay.specs.Index.{maxMediaIndex, maxControlIndex}
-use Rattle.replay.specs.Window.{windowLength, windowVerdict, windowMarked}
+use Rattle.replay.specs.Window.{windowLength, windowVerdict}
 use Rattle.replay.specs.declared.index.Highest.{Highest}
 use Rattle.replay.specs.declared.index.Highest.the-variants as highest
 use Rattle.replay.specs.declared.window.Verdict.{Verdict}
 use Rattle.replay.specs.declared.window.Verdict.the-variants as verdict
 use Rattle.replay.specs.declared.window.Window.{Window}
-use Rattle.replay.specs.declared.window.Marked.{Marked}
 use Rattle.transforms.proofs.TagLaws.{take-controlTag}
 use Rattle.transforms.proofs.RccLaws.{take-integrityTag}
 use Rattle.transforms.specs.Tag.{controlTag}
@@ -59,18 +58,15 @@ module _ (c : Receiver) (s : Bool) (es : s ≡ settingsListed (c .session .setti
 abbrev replayed : Verdict → Judged
 replayed v = judgedAs (judged (row (isOld v) Old ∷ row (isRepeat v) Repeat ∷ []))
 
-module _ (w : Window) (i : ℕ) {m : Marked} (e : m ≡ windowMarked windowLength w i) where
-  verdict-is : m .verdict ≡ windowVerdict windowLength w i
-  verdict-is = ap (λ (x : Marked). x .verdict) e
+module _ (w : Window) (i : ℕ) {v : Verdict} (e : v ≡ windowVerdict windowLength w i) where
+  pub replay-new : v ≡ verdict.New → Passes ≡ judgedAs (judged (replayRows w i))
+  replay-new h = ap replayed (sym h ∙ e)
 
-  pub replay-new : m .verdict ≡ verdict.New → Passes ≡ judgedAs (judged (replayRows w i))
-  replay-new h = ap replayed (sym h ∙ verdict-is)
+  pub replay-old : v ≡ verdict.Old → Stops Old ≡ judgedAs (judged (replayRows w i))
+  replay-old h = ap replayed (sym h ∙ e)
 
-  pub replay-old : m .verdict ≡ verdict.Old → Stops Old ≡ judgedAs (judged (replayRows w i))
-  replay-old h = ap replayed (sym h ∙ verdict-is)
-
-  pub replay-repeat : m .verdict ≡ verdict.Repeat → Stops Repeat ≡ judgedAs (judged (replayRows w i))
-  replay-repeat h = ap replayed (sym h ∙ verdict-is)
+  pub replay-repeat : v ≡ verdict.Repeat → Stops Repeat ≡ judgedAs (judged (replayRows w i))
+  replay-repeat h = ap replayed (sym h ∙ e)
 
 -- ---- STREAM, ROOM and KEY
 module _ (s : Settings) (ssrc len room : ℕ) (mki : List ℕ) where

@@ -69,8 +69,7 @@ fn at_most(highest: Highest, bound: u64) -> bool
 fn judge_replay(window: Window, index: u64) -> Judged
     ensures { λ r. ⌜ r ≡ judgedAs (judged (replayRows window index)) ⌝ }
 {
-    let marked = window.mark(index);
-    let verdict = marked.verdict;
+    let verdict = window.verdict(index);
     match verdict {
         Verdict::New => Judged::Passes,
         Verdict::Old => Judged::Stops(Refusal::Old),

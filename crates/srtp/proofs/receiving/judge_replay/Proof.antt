@@ -4,8 +4,8 @@ use Rattle.srtp.proofs.ReceiverReturns.{replay-new, replay-old, replay-
 use Rattle.srtp.proofs.receiving.judge_replay.Statement.{statement}
 use Rattle.srtp.proofs.receiving.judge_replay.Tie as tie
 
-mark-requires : tie.Need-mark-requires
-mark-requires c κs = search needs
+verdict-requires : tie.Need-verdict-requires
+verdict-requires c κs = search needs
 
 enum-told : tie.Need-enum-told
 enum-told c = search needs
@@ -28,4 +28,4 @@ returns-3 c = search replay-repeat
 pub judge-replay-spec : {M : Type 1} → statement M
 judge-replay-spec =
     tie.close
-    (tie.spec mark-requires enum-told enum-told-2 enum-told-3 returns returns-2 returns-3)
+    (tie.spec verdict-requires enum-told enum-told-2 enum-told-3 returns returns-2 returns-3)

@@ -32,11 +32,8 @@ fn proved(message: &[u8]) -> [u8; DIGEST_LENGTH] {
 /// Digests of each length, proved beside ordinary Rust in several forms.
 pub fn print() {
     println!("### SHA-1 alone\n");
-    println!(
-        "{ROUNDS} rounds of {DIGESTS} digests. The ratio is the proved form's time to that of"
-    );
-    println!("ordinary Rust in the form named: below 1 the proved one is faster.\n");
-    head(&["bytes", "proved, µs", "form", "µs", "ratio", "middle half", "all rounds"]);
+    println!("{ROUNDS} rounds of {DIGESTS} digests, beside forms of ordinary Rust.\n");
+    head(&["bytes", "proved, µs", "beside", "µs", "rate", "middle half", "all rounds"]);
     let mut contenders: Vec<(&str, Digest)> =
         vec![("proved", proved), ("reference/", Sha1::digest)];
     contenders.extend(FORMS);
@@ -47,9 +44,9 @@ pub fn print() {
         }
         let times = interleaved(ROUNDS, contenders.len(), |at| turn(contenders[at].1, &message));
         for ((name, _), ordinary) in contenders.iter().zip(&times).skip(1) {
-            let [ratio, half, all] = ratio_and_spread(&times[0], ordinary);
+            let [rate, half, all] = ratio_and_spread(ordinary, &times[0]);
             let (own, other) = (micros(&times[0], DIGESTS), micros(ordinary, DIGESTS));
-            row(&[&length.to_string(), &own, name, &other, &ratio, &half, &all]);
+            row(&[&length.to_string(), &own, name, &other, &rate, &half, &all]);
         }
     }
     println!();

@@ -1,66 +1,111 @@
-//! The time of a media packet: of 1,200 bytes by every implementation, and of each size.
+//! The time of a media packet, by size and call: every contender in the same rounds.
 
 use crate::clock::timed;
-use crate::implementations::{self, Implementation, ORDINARY, PLAIN, PROVED};
+use crate::implementations::{Implementation, LIBSRTP2, PLAIN, PROVED, QUICK, REFERENCE};
 use crate::packets::{Call, Traffic, PACKETS, ROOM};
 use crate::report::{head, micros, ratio_and_spread, row};
 use crate::rounds::interleaved;
+use crate::statistics::Spread;
 use std::time::Duration;
 
-/// Bytes of the packets of the first table.
-const LENGTH: usize = 1200;
+const SIZES: [usize; 5] = [60, 172, 400, 1200, 2000];
 const ROUNDS: usize = 200;
-const SIZES: [usize; 8] = [60, 120, 200, 400, 800, 1200, 1600, 2000];
-const ROUNDS_OF_A_SIZE: usize = 60;
 
-/// Packets of 1,200 bytes, by every implementation.
-pub fn print_main_table() {
-    println!("### Media packets of {LENGTH} bytes\n");
-    println!("{ROUNDS} rounds of {PACKETS} packets.\n");
-    head(&["call", "by", "µs", "ordinary Rust, µs", "rate", "middle half", "all rounds"]);
-    let contenders = implementations::all();
-    let traffic = Traffic::new(LENGTH);
-    for call in Call::ALL {
-        let times = times(&traffic, call, ROUNDS, &contenders);
-        let ordinary = micros(&times[0], PACKETS);
-        for (contender, own) in contenders.iter().zip(&times).skip(1) {
-            let [rate, half, all] = ratio_and_spread(&times[0], own);
-            let time = micros(own, PACKETS);
-            row(&[call.name(), contender.name, &time, &ordinary, &rate, &half, &all]);
+/// The times of a contender, one a round, and its name.
+type Times = (&'static str, Vec<f64>);
+
+/// The times of one call on packets of one size.
+struct Measured {
+    length: usize,
+    call: Call,
+    proved: Vec<f64>,
+    /// reference/ and the quick forms.
+    ordinary: Vec<Times>,
+    libsrtp2: Option<Times>,
+}
+
+/// The summary, and every contender.
+pub fn print() {
+    let measured: Vec<Measured> = SIZES.into_iter().flat_map(measure).collect();
+    println!("### Media packets\n");
+    println!("{ROUNDS} rounds of {PACKETS} packets of each size.\n");
+    print_summary(&measured);
+    print_contenders(&measured);
+}
+
+/// The proved library beside the quickest of ordinary Rust, and beside libsrtp2.
+fn print_summary(measured: &[Measured]) {
+    let columns = ["bytes", "call", "proved, µs", "quickest ordinary Rust", "µs", "rate"];
+    head(&[&columns[..], &["libsrtp2, µs", "rate"]].concat());
+    for of in measured {
+        let time_and_rate = |(_, times): &Times| {
+            let [rate, ..] = ratio_and_spread(times, &of.proved);
+            [micros(times, PACKETS), rate]
+        };
+        let [length, call, proved] = of.front();
+        let quickest = of.quickest();
+        let [time, rate] = time_and_rate(quickest);
+        let [libsrtp2, its_rate] =
+            of.libsrtp2.as_ref().map_or(["-", "-"].map(String::from), time_and_rate);
+        row(&[&length, &call, &proved, quickest.0, &time, &rate, &libsrtp2, &its_rate]);
+    }
+    println!();
+}
+
+/// The proved library beside each of the others.
+fn print_contenders(measured: &[Measured]) {
+    println!("### Media packets, every contender\n");
+    let columns = ["bytes", "call", "proved, µs", "beside", "µs", "rate"];
+    head(&[&columns[..], &["middle half", "all rounds"]].concat());
+    for of in measured {
+        for (name, times) in of.ordinary.iter().chain(&of.libsrtp2) {
+            let [length, call, proved] = of.front();
+            let [rate, half, all] = ratio_and_spread(times, &of.proved);
+            let time = micros(times, PACKETS);
+            row(&[&length, &call, &proved, name, &time, &rate, &half, &all]);
         }
     }
     println!();
 }
 
-/// Packets of each size, proved beside ordinary Rust.
-pub fn print_sizes() {
-    println!("### By size\n");
-    println!("{ROUNDS_OF_A_SIZE} rounds of {PACKETS} packets of each.\n");
-    head(&["bytes", "call", "proved, µs", "ordinary Rust, µs", "rate", "middle half"]);
-    for length in SIZES {
-        let traffic = Traffic::new(length);
-        for call in Call::ALL {
-            let times = times(&traffic, call, ROUNDS_OF_A_SIZE, &[ORDINARY, PROVED]);
-            let [rate, half, _] = ratio_and_spread(&times[0], &times[1]);
-            let (proved, ordinary) = (micros(&times[1], PACKETS), micros(&times[0], PACKETS));
-            row(&[&length.to_string(), call.name(), &proved, &ordinary, &rate, &half]);
-        }
+impl Measured {
+    /// The first cells of its rows.
+    fn front(&self) -> [String; 3] {
+        let call = self.call.name().to_string();
+        [self.length.to_string(), call, micros(&self.proved, PACKETS)]
     }
-    println!();
+
+    /// The contender of ordinary Rust with the least median.
+    fn quickest(&self) -> &Times {
+        let median = |times: &Times| Spread::of(times.1.clone()).median;
+        let least = self.ordinary.iter().min_by(|a, b| median(a).total_cmp(&median(b)));
+        least.expect("there is ordinary Rust")
+    }
+}
+
+/// Both calls on packets of one size.
+fn measure(length: usize) -> [Measured; 2] {
+    let traffic = Traffic::new(length);
+    let ordinary = [&[REFERENCE][..], &QUICK].concat();
+    let contenders: Vec<_> =
+        [PROVED].into_iter().chain(ordinary.iter().copied()).chain(LIBSRTP2).collect();
+    Call::ALL.map(|call| {
+        let mut times = times(&traffic, call, &contenders).into_iter();
+        let proved = times.next().expect("proved comes first");
+        let names = ordinary.iter().map(|contender| contender.name);
+        let ordinary = names.zip(times.by_ref()).collect();
+        let libsrtp2 = LIBSRTP2.map(|library| library.name).zip(times.next());
+        Measured { length, call, proved, ordinary, libsrtp2 }
+    })
 }
 
 /// The times of each contender, once the bytes that it gives have been found right.
-fn times(
-    traffic: &Traffic,
-    call: Call,
-    rounds: usize,
-    contenders: &[Implementation],
-) -> Vec<Vec<f64>> {
+fn times(traffic: &Traffic, call: Call, contenders: &[Implementation]) -> Vec<Vec<f64>> {
     for contender in contenders {
         traffic.check(call, contender);
     }
     let mut out = vec![0; ROOM];
-    interleaved(rounds, contenders.len(), |at| turn(traffic, call, &contenders[at], &mut out))
+    interleaved(ROUNDS, contenders.len(), |at| turn(traffic, call, &contenders[at], &mut out))
 }
 
 /// Every packet once. Set-up is not in the time, nor is the check of what came out.

@@ -1,10 +1,10 @@
 //! The packets that are timed, and what each must become.
 
-use crate::implementations::{Answer, Implementation, Link, ORDINARY, PLAIN, SSRC, TAG_LENGTH};
+use crate::implementations::{Answer, Implementation, Link, PLAIN, REFERENCE, SSRC, TAG_LENGTH};
 use reference::random::Random;
 
-/// Packets of a round. A receiver is set up anew for each round, for ordinary Rust keeps every
-/// index that it accepted.
+/// Packets of a round. A receiver is set up anew for each round, for reference/ keeps every index
+/// that it accepted.
 pub const PACKETS: usize = 1000;
 /// Bytes of the buffer that every call writes to.
 pub const ROOM: usize = 2_100;
@@ -58,12 +58,12 @@ pub struct Traffic {
 }
 
 impl Traffic {
-    /// Packets of this length, protected by ordinary Rust.
+    /// Packets of this length, protected by reference/.
     pub fn new(length: usize) -> Traffic {
         let mut random = Random::new(length as u64);
         let numbers = FIRST_NUMBER..FIRST_NUMBER + PACKETS as u16;
         let plain: Vec<_> = numbers.map(|number| rtp(number, length, &mut random)).collect();
-        let mut link = (ORDINARY.set_up)(&PLAIN);
+        let mut link = (REFERENCE.set_up)(&PLAIN);
         let protected = plain.iter().map(|packet| {
             let mut out = vec![0; length + TAG_LENGTH];
             assert_eq!(link.protect(packet, &mut out), Ok(out.len()));

@@ -4,7 +4,7 @@
 //! index.
 
 use crate::clock::timed;
-use crate::implementations::{Link, Settings, ORDINARY, PLAIN, PROVED, TAG_LENGTH};
+use crate::implementations::{Link, Settings, PLAIN, PROVED, REFERENCE, TAG_LENGTH};
 use crate::packets::{rtp, Call, ROOM};
 use crate::report::{head, nanos, ratio_and_spread, row};
 use crate::rounds::interleaved;
@@ -15,7 +15,7 @@ use reference::settings::{Start, MAX_PLAIN_LENGTH};
 use std::time::Duration;
 
 const ROUNDS: usize = 60;
-/// About how long a turn of ordinary Rust is to take.
+/// About how long a turn of reference/ is to take.
 const TURN: Duration = Duration::from_millis(2);
 const LENGTH: usize = 1200;
 const NUMBER: u16 = 1_000;
@@ -38,7 +38,7 @@ fn case(call: Call, refusal: Refusal, change: fn(&mut Case)) -> Case {
         Call::Protect => plain,
         Call::Open => {
             let mut out = vec![0; LENGTH + TAG_LENGTH];
-            let sent = (ORDINARY.set_up)(&PLAIN).protect(&plain, &mut out);
+            let sent = (REFERENCE.set_up)(&PLAIN).protect(&plain, &mut out);
             assert_eq!(sent, Ok(out.len()));
             out
         }
@@ -81,7 +81,7 @@ fn start(rollover_count: u32, last_number: u16) -> Start {
 impl Case {
     /// Each contender's link, where the next call will be refused.
     fn links(&self, out: &mut [u8]) -> Vec<Box<dyn Link>> {
-        let links = [ORDINARY, PROVED].iter().map(|implementation| {
+        let links = [REFERENCE, PROVED].iter().map(|implementation| {
             let mut link = (implementation.set_up)(&self.settings);
             if self.is_repeated {
                 assert!(self.call.make(&mut *link, &self.packet, out).is_ok());
@@ -105,12 +105,12 @@ impl Case {
     }
 }
 
-/// Every case, proved beside ordinary Rust.
+/// Every case, proved beside reference/, which knows the settings of all of them.
 pub fn print() {
     println!("### Refusals\n");
     println!("Media packets of {LENGTH} bytes but for LONG; {ROUNDS} rounds of each. Control's");
     println!("refusals and a sender's SPENT are left out.\n");
-    head(&["refusal", "call", "proved, ns", "ordinary Rust, ns", "rate", "middle half"]);
+    head(&["refusal", "call", "proved, ns", "reference/, ns", "rate", "middle half"]);
     let mut out = vec![0; ROOM];
     for case in cases() {
         let mut links = case.links(&mut out);
@@ -119,9 +119,9 @@ pub fn print() {
         let times =
             interleaved(ROUNDS, links.len(), |at| case.turn(&mut *links[at], &mut out, calls));
         let [rate, half, _] = ratio_and_spread(&times[0], &times[1]);
-        let (proved, ordinary) = (nanos(&times[1], calls), nanos(&times[0], calls));
+        let (proved, second) = (nanos(&times[1], calls), nanos(&times[0], calls));
         let refusal = case.refusal.to_string();
-        row(&[&refusal, case.call.name(), &proved, &ordinary, &rate, &half]);
+        row(&[&refusal, case.call.name(), &proved, &second, &rate, &half]);
     }
     println!();
 }

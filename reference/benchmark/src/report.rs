@@ -20,7 +20,12 @@ pub fn print_conditions() {
     let processor = processor().unwrap_or_else(|| "an unknown processor".to_string());
     println!("Measured on {processor}, release builds; {}.", implementations::libsrtp2_version());
     println!("AES, tag of 10 bytes, no MKI. All calls write to one buffer, zeroed once before the");
-    println!("first round and not cleared between calls. Times are medians of CPU time.\n");
+    println!(
+        "first round and not cleared between calls. Times are medians of CPU time. A rate is the"
+    );
+    println!(
+        "other's time over that of the proved library: above 1 the proved library is faster.\n"
+    );
 }
 
 /// The processor's name, where Linux tells it.

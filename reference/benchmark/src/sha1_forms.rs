@@ -1,9 +1,14 @@
 //! SHA-1 in ordinary Rust again, in the forms of the block that were quickest: what the proved one
-//! is measured against beside the second implementation, which is written to be read.
+//! is measured against beside the second implementation, which is written to be read. The quick
+//! contexts take the last of them.
 
 use reference::sha1::{BLOCK_LENGTH, DIGEST_LENGTH, INITIAL};
 
-type State = [u32; 5];
+/// The hash value between two blocks (FIPS 180-4's H).
+pub type State = [u32; 5];
+
+/// One block's work.
+pub type Compress = fn(State, &[u8; BLOCK_LENGTH]) -> State;
 
 /// A message's digest.
 pub type Digest = fn(&[u8]) -> [u8; DIGEST_LENGTH];
@@ -18,26 +23,42 @@ pub const FORMS: [(&str, Digest); 3] = [
 /// K_t, for twenty rounds each (FIPS 180-4, 4.2.1).
 const K: [u32; 4] = [0x5a827999, 0x6ed9eba1, 0x8f1bbcdc, 0xca62c1d6];
 
-/// Whole blocks are read where they stand, and only the last one or two are put together.
+/// The digest of a message, by blocks of one form.
 #[inline(always)]
-fn digest(
+fn digest(message: &[u8], compress: Compress) -> [u8; DIGEST_LENGTH] {
+    bytes_of(finished(INITIAL, 0, message, [], compress))
+}
+
+/// The state behind a message that ends here: `before` bytes of it, whole blocks, are in the given
+/// state, and `message` and `end` follow. Whole blocks are read where they stand, and only the
+/// last one or two are put together.
+#[inline(always)]
+pub fn finished<const N: usize>(
+    state: State,
+    before: usize,
     message: &[u8],
-    compress: fn(State, &[u8; BLOCK_LENGTH]) -> State,
-) -> [u8; DIGEST_LENGTH] {
-    let mut blocks = message.chunks_exact(BLOCK_LENGTH);
+    end: [u8; N],
+    compress: Compress,
+) -> State {
     let whole = |state, block: &[u8]| compress(state, block.try_into().expect("a whole block"));
-    let mut state = blocks.by_ref().fold(INITIAL, whole);
+    let blocks = message.chunks_exact(BLOCK_LENGTH);
     let rest = blocks.remainder();
-    let mut block = [0; BLOCK_LENGTH];
-    block[..rest.len()].copy_from_slice(rest);
-    block[rest.len()] = 0x80;
-    if rest.len() >= BLOCK_LENGTH - 8 {
-        state = compress(state, &block);
-        block = [0; BLOCK_LENGTH];
-    }
-    block[BLOCK_LENGTH - 8..].copy_from_slice(&(8 * message.len() as u64).to_be_bytes());
+    let state = blocks.fold(state, whole);
+    let mut last = [0; 2 * BLOCK_LENGTH];
+    let filled = rest.len() + N;
+    last[..rest.len()].copy_from_slice(rest);
+    last[rest.len()..filled].copy_from_slice(&end);
+    last[filled] = 0x80;
+    let length = if filled < BLOCK_LENGTH - 8 { BLOCK_LENGTH } else { 2 * BLOCK_LENGTH };
+    let bits = 8 * (before + message.len() + N) as u64;
+    last[length - 8..length].copy_from_slice(&bits.to_be_bytes());
+    last[..length].chunks_exact(BLOCK_LENGTH).fold(state, whole)
+}
+
+/// The digest that a message's last state is.
+pub fn bytes_of(state: State) -> [u8; DIGEST_LENGTH] {
     let mut digest = [0; DIGEST_LENGTH];
-    for (bytes, word) in digest.chunks_exact_mut(4).zip(compress(state, &block)) {
+    for (bytes, word) in digest.chunks_exact_mut(4).zip(state) {
         bytes.copy_from_slice(&word.to_be_bytes());
     }
     digest
@@ -67,10 +88,17 @@ fn parity(x: u32, y: u32, z: u32) -> u32 {
     x ^ y ^ z
 }
 
-/// The two parts have no bit in common, so that the sum of a round can take them one by one.
+/// The two parts have no bit in common, so that the sum of a round can take them one by one: what
+/// suits the rounds by fours.
 #[inline(always)]
 fn maj(x: u32, y: u32, z: u32) -> u32 {
     (x & y).wrapping_add(z & (x ^ y))
+}
+
+/// As FIPS 180-4 has it (4.1.1): what suits the rounds that are written out.
+#[inline(always)]
+fn maj_by_pairs(x: u32, y: u32, z: u32) -> u32 {
+    (x & y) ^ (x & z) ^ (y & z)
 }
 
 #[inline(always)]
@@ -130,7 +158,7 @@ fn ring_by_fours(before: State, block: &[u8; BLOCK_LENGTH]) -> State {
 
 /// No loop at all: each round takes its word when it needs it, and the variables change their
 /// parts where the other forms move their values.
-fn ring_written_out(before: State, block: &[u8; BLOCK_LENGTH]) -> State {
+pub fn ring_written_out(before: State, block: &[u8; BLOCK_LENGTH]) -> State {
     let mut w = words(block);
     let [mut a, mut b, mut c, mut d, mut e] = before;
     let mut word = |t: usize| {
@@ -158,7 +186,7 @@ fn ring_written_out(before: State, block: &[u8; BLOCK_LENGTH]) -> State {
     }
     five!(ch: 0, 5, 10, 15);
     five!(parity: 20, 25, 30, 35);
-    five!(maj: 40, 45, 50, 55);
+    five!(maj_by_pairs: 40, 45, 50, 55);
     five!(parity: 60, 65, 70, 75);
     sum([a, b, c, d, e], before)
 }

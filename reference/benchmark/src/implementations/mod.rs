@@ -2,9 +2,11 @@
 
 #[cfg(feature = "libsrtp2")]
 mod libsrtp2;
-mod ordinary;
 mod proved;
+mod quick;
+mod second;
 
+use crate::quick::{OneBlock, SharedRounds, TwoBlocks};
 use reference::refusal::Refusal;
 use reference::settings::Start;
 
@@ -33,6 +35,7 @@ pub struct Settings {
 }
 
 /// One contender.
+#[derive(Clone, Copy)]
 pub struct Implementation {
     /// Its name in the tables.
     pub name: &'static str,
@@ -55,21 +58,23 @@ pub const PLAIN: Settings = Settings {
     start: Start { rollover_count: 0, last_number: None },
 };
 
-/// What the others are compared with.
-pub const ORDINARY: Implementation =
-    Implementation { name: "ordinary Rust", set_up: ordinary::set_up };
 /// The proved library, through its boundary.
 pub const PROVED: Implementation = Implementation { name: "proved", set_up: proved::set_up };
-
-/// Every contender, ordinary Rust first.
-pub fn all() -> Vec<Implementation> {
-    vec![
-        ORDINARY,
-        PROVED,
-        #[cfg(feature = "libsrtp2")]
-        Implementation { name: "libsrtp2", set_up: libsrtp2::set_up },
-    ]
-}
+/// Ordinary Rust that is written to be read, and that knows all settings.
+pub const REFERENCE: Implementation = Implementation { name: "reference/", set_up: second::set_up };
+/// Ordinary Rust in its quickest forms.
+pub const QUICK: [Implementation; 3] = [
+    Implementation { name: "Rust, one block", set_up: quick::set_up::<OneBlock> },
+    Implementation { name: "Rust, two blocks", set_up: quick::set_up::<TwoBlocks> },
+    Implementation { name: "Rust, shared rounds", set_up: quick::set_up::<SharedRounds> },
+];
+/// libsrtp2, where it is built in.
+#[cfg(feature = "libsrtp2")]
+pub const LIBSRTP2: Option<Implementation> =
+    Some(Implementation { name: "libsrtp2", set_up: libsrtp2::set_up });
+/// libsrtp2, where it is built in.
+#[cfg(not(feature = "libsrtp2"))]
+pub const LIBSRTP2: Option<Implementation> = None;
 
 /// What is to be said of libsrtp2 above the tables.
 pub fn libsrtp2_version() -> String {

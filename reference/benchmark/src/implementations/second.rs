@@ -1,10 +1,10 @@
-//! The second implementation, in ordinary Rust.
+//! The second implementation, reference/: ordinary Rust that is written to be read.
 
 use super::{Answer, Link, Settings, MASTER_KEY, MASTER_SALT, SSRC};
 use reference::context::{Receiver, Sender};
 use reference::settings::{Integrity, SetUp};
 
-struct Ordinary {
+struct Second {
     sender: Sender,
     receiver: Receiver,
 }
@@ -22,10 +22,10 @@ pub fn set_up(settings: &Settings) -> Box<dyn Link> {
     };
     let (sender, _) = Sender::set_up(&values);
     let (receiver, _) = Receiver::set_up(&values, settings.start);
-    Box::new(Ordinary { sender, receiver })
+    Box::new(Second { sender, receiver })
 }
 
-impl Link for Ordinary {
+impl Link for Second {
     fn protect(&mut self, packet: &[u8], out: &mut [u8]) -> Answer {
         self.sender.send_media(packet, out).map(|finished| finished.length)
     }

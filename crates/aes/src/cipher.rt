@@ -123,7 +123,7 @@ pub(crate) fn substituted(t: &[u8; 256], b: u32) -> u8
 }
 
 // The word with these four bytes.
-pub(crate) fn word(a: u8, b: u8, c: u8, d: u8) -> u32
+pub fn word(a: u8, b: u8, c: u8, d: u8) -> u32
     ensures number { λ r. ⌜ r ≡ fromBytes (a ∷ b ∷ c ∷ d ∷ []) ⌝ }
     ensures bytes { λ r. ⌜ toBytes 4 r ≡ a ∷ b ∷ c ∷ d ∷ [] ⌝ }
 {

@@ -4,6 +4,7 @@ mod expansion;
 mod substitution;
 
 pub use cipher::encrypt_block;
+pub use cipher::word;
 pub use expansion::expand_128;
 pub use expansion::expand_key;
 pub use substitution::sbox;

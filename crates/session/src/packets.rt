@@ -4,7 +4,6 @@ ghost use mathlib.Core.List.{_++_};
 ghost use Prim.Native.Nat.{_+_, _^_, _≤_, _<_};
 ghost use lib.ListN.{length, take};
 ghost use Rattle.octets.specs.Buffer.{over, overAt};
-ghost use Rattle.aes.specs.SBox.{SBoxTable};
 ghost use Rattle.rtp.specs.Rtp.{headerLength};
 ghost use Rattle.session.specs.Packets.{cipheredMedia, cipheredControl, encrypts as encryptsOf, srtp, srtcp, cipherOf};
 ghost use Rattle.session.specs.Steps.{cipheredBehind};
@@ -20,14 +19,12 @@ impl Settings {
     // Writes `packet` over the start of `out`: its first `clear` bytes as they are, the part behind them under the cipher.
     fn cipher_behind(
         self,
-        t: &[u8; 256],
         keys: SessionKeys,
         index: u64,
         packet: &[u8],
         clear: usize,
         out: &mut [u8],
     )
-        requires { ⌜ SBoxTable (now t) ⌝ }
         requires { ⌜ (clear ≤ length (now packet)) × (index < 2 ^ 48) × (length (now packet) ≤ 2048) × (length (now packet) ≤ length (now out)) ⌝ }
         ensures { λ _. ⌜ now (out .exit) ≡ over (cipheredBehind self keys index clear (now (packet .entry))) (now (out .entry)) ⌝ }
     {
@@ -35,7 +32,6 @@ impl Settings {
         let cipher = profile.cipher;
         octets::copy_over(&packet[..clear], out);
         transforms::encipher(
-            t,
             cipher,
             keys,
             self.ssrc,
@@ -50,35 +46,19 @@ impl Settings {
 impl Session {
     // Writes a media packet over the start of `out`: the header as it is, the payload under the cipher (RFC 3711, 3.1).
     // A protected packet, up to its MKI, comes out plain.
-    pub fn cipher_media(
-        self,
-        t: &[u8; 256],
-        packet: &[u8],
-        header_len: usize,
-        index: u64,
-        out: &mut [u8],
-    )
-        requires { ⌜ SBoxTable (now t) ⌝ }
+    pub fn cipher_media(self, packet: &[u8], header_len: usize, index: u64, out: &mut [u8])
         requires { ⌜ («header_len» ≡ headerLength (now packet)) × («header_len» ≤ length (now packet)) ⌝ }
         requires { ⌜ (index < 2 ^ 48) × (length (now packet) ≤ 2048) × (length (now packet) ≤ length (now out)) ⌝ }
         ensures { λ _. ⌜ now (out .exit) ≡ over (cipheredMedia self (now (packet .entry)) index) (now (out .entry)) ⌝ }
     {
         let settings = self.settings;
         let keys = self.media;
-        settings.cipher_behind(t, keys, index, packet, header_len, out);
+        settings.cipher_behind(keys, index, packet, header_len, out);
     }
 
     // Writes a control packet over the start of `out`: 8 bytes as they are, the rest under the cipher if E is set (3.4).
     // A protected packet, up to its index word, comes out plain.
-    pub fn cipher_control(
-        self,
-        t: &[u8; 256],
-        encrypted: bool,
-        packet: &[u8],
-        index: u64,
-        out: &mut [u8],
-    )
-        requires { ⌜ SBoxTable (now t) ⌝ }
+    pub fn cipher_control(self, encrypted: bool, packet: &[u8], index: u64, out: &mut [u8])
         requires { ⌜ 8 ≤ length (now packet) ⌝ }
         requires { ⌜ (index < 2 ^ 48) × (length (now packet) ≤ 2048) × (length (now packet) ≤ length (now out)) ⌝ }
         ensures { λ _. ⌜ now (out .exit) ≡ over (cipheredControl self encrypted (now (packet .entry)) index) (now (out .entry)) ⌝ }
@@ -89,7 +69,7 @@ impl Session {
         }
         let settings = self.settings;
         let keys = self.control;
-        settings.cipher_behind(t, keys, index, packet, 8, out);
+        settings.cipher_behind(keys, index, packet, 8, out);
     }
 }
 
@@ -154,8 +134,7 @@ impl Session {
         ensures size { λ r. ⌜ r ≡ length (srtp self (now (packet .entry)) index) ⌝ }
         ensures written { λ _. ⌜ now (out .exit) ≡ over (srtp self (now (packet .entry)) index) (now (out .entry)) ⌝ }
     {
-        let t = aes::sbox();
-        self.cipher_media(&t, packet, header_len, index, out);
+        self.cipher_media(packet, header_len, index, out);
         let n = packet.len();
         let settings = self.settings;
         let profile = settings.profile;
@@ -178,8 +157,7 @@ impl Session {
         let profile = settings.profile;
         let cipher = profile.cipher;
         let encrypted = encrypts(cipher);
-        let t = aes::sbox();
-        self.cipher_control(&t, encrypted, packet, index, out);
+        self.cipher_control(encrypted, packet, index, out);
         let n = packet.len();
         let word = rtp::index_word(encrypted, index as u32);
         octets::store32(out, n, word);

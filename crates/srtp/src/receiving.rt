@@ -331,8 +331,7 @@ impl Receiver {
                 index,
             } => {
                 let session = self.session;
-                let t = aes::sbox();
-                session.cipher_media(&t, &packet[..len], header_len, index, out);
+                session.cipher_media(&packet[..len], header_len, index, out);
                 let window = self.media;
                 let marked = window.mark(index);
                 let after = marked.next;
@@ -362,8 +361,7 @@ impl Receiver {
                 index,
             } => {
                 let session = self.session;
-                let t = aes::sbox();
-                session.cipher_control(&t, encrypted, &packet[..len], index, out);
+                session.cipher_control(encrypted, &packet[..len], index, out);
                 let window = self.control;
                 let marked = window.mark(index);
                 let after = marked.next;

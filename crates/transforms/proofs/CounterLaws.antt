@@ -9,10 +9,11 @@ use lib.ListN.{length, take, drop}
 use lib.Pow.{pow-pos}
 use lib.Seq.{take-add, take-all}
 use Rattle.aes.proofs.StateLaws.{added-words}
+use Rattle.aes.specs.Cipher.{cipher}
 use Rattle.octets.proofs.BigEndianLaws.{toBytes-join, toBytes-low, toBytes-xor, fromBytes-append, from-toBytes, to-fromBytes}
 use Rattle.octets.specs.BigEndian.{toBytes, fromBytes}
 use Rattle.octets.specs.Xor.{xors}
-use Rattle.transforms.specs.CounterMode.{initialCounter, keystream}
+use Rattle.transforms.specs.CounterMode.{initialCounter, keystreamBlock, keystream}
 use Rattle.transforms.specs.KeyDerivation.{derivationInput}
 use Rattle.transforms.proofs.BlockBytes.{bytes-three, bytes-words}
 use Rattle.transforms.proofs.KeystreamLaws.{keystream-counter}
@@ -38,6 +39,11 @@ block-words a b c d j h =
     ∙ ap (toBytes 16) v
     ∙ toBytes-join 12 4 (fromBytes l) (d + j) h
     ∙ ap (λ (x : List ℕ). x ++ toBytes 4 (d + j)) (to-fromBytes l (bytes-three a b c)))
+
+-- block j of the keystream
+pub counter-block : (w : List ℕ) (a b c d j : ℕ) → d + j < 2 ^ 32 → cipher w 10 (words a b c (d + j)) ≡ keystreamBlock w (fromBytes (words a b c d)) j
+unfolding keystreamBlock
+counter-block w a b c d j h = ap (cipher w 10) (block-words a b c d j h)
 
 -- ---- the initial counter
 

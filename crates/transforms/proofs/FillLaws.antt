@@ -1,15 +1,19 @@
 -- Buffers that a loop fills, part behind part; and the keystream segment, block by block. Assumes nothing.
 use mathlib.Core.List.{List, _++_, append-nil}
 use mathlib.Core.Path.{_≡_, sym, ap, ap₂, _∙_}
-use Prim.Native.Nat.{ℕ, _+_, _-_, _*_, _/_, _%_, _<_, _≤_, min}
-use native.Mathlib.Nat.{add-zero}
+use Prim.Native.Nat.{ℕ, _+_, _-_, _*_, _/_, _%_, _^_, _<_, _≤_, min}
+use native.Mathlib.Nat.{add-zero, le-refl}
 use native.Mathlib.Omega.{arith}
-use lib.ListN.{length, take, drop, getD, length-drop, drop-of-length-le}
+use lib.ListN.{length, take, drop, getD, length-append, length-drop, drop-of-length-le}
 use lib.Seq.{take-add, take-all, length-take-le, getD-drop, drop-drop}
 use Rattle.octets.proofs.BufferLaws.{drop-over, overAt-over, overAt-part}
+use Rattle.octets.proofs.BigEndianLaws.{toBytes-low}
+use Rattle.octets.specs.BigEndian.{toBytes, fromBytes}
 use Rattle.octets.specs.Buffer.{over, overAt}
 use Rattle.transforms.specs.CounterMode.{keystreamBlock, keystream}
-use Rattle.transforms.proofs.KeystreamLaws.{length-keystream, keystream-part}
+use Rattle.transforms.proofs.CounterLaws.{words, counted}
+use Rattle.transforms.proofs.KeystreamLaws.{length-block, length-keystream, keystream-pair, keystream-behind, take-keystream}
+use Rattle.transforms.proofs.PartLaws.{drop-take}
 
 -- what is written over a whole buffer is all that is left
 pub over-whole : (bs d : List ℕ) → length d ≤ length bs → over bs d ≡ bs
@@ -43,24 +47,84 @@ all-parts s d₀ d at e l p =
 -- ---- the keystream segment from its byte start on, over a whole buffer
 
 module _ (w : List ℕ) (iv start : ℕ) where
-  -- from at on, as far as the block of byte p = start + at and the buffer reach: x is what a callee leaves of the buffer's rest
-  pub block-part : (out k x : List ℕ) (at n : ℕ) → at < length out → k ≡ keystreamBlock w iv ((start + at) / 16)
-      → n ≡ min (16 - (start + at) % 16) (length out - at)
-      → x ≡ over (take ((start + at) % 16 + n - (start + at) % 16) (drop ((start + at) % 16) k)) (take (length out - at) (drop at out))
+  -- from at on, n bytes: x is what a callee leaves of the buffer's rest
+  part-over : (out s x : List ℕ) (at n : ℕ) → at ≤ length out → s ≡ take n (drop (start + at) (keystream w iv (start + length out)))
+      → x ≡ over s (take (length out - at) (drop at out))
+      → take at out ++ (x ++ drop (length out - at) (drop at out)) ≡ overAt at (take (at + n - at) (drop (start + at) (keystream w iv (start + length out)))) out
+  part-over out s x at n h e c =
+      let g : n ≡ at + n - at = omega arith in
+      ap (λ (l : List ℕ). take at out ++ (l ++ drop (length out - at) (drop at out))) c
+      ∙ overAt-part at (length out - at) s out (omega arith)
+      ∙ ap (λ (l : List ℕ). overAt at l out) (e ∙ ap (λ (i : ℕ). take i (drop (start + at) (keystream w iv (start + length out)))) g)
+
+  -- as far as the pair of blocks of byte p = start + at and the buffer reach
+  pub pair-part : (out k x : List ℕ) (at n : ℕ) → at < length out
+      → k ≡ keystreamBlock w iv ((start + at) / 32 * 2) ++ keystreamBlock w iv ((start + at) / 32 * 2 + 1)
+      → n ≡ min (32 - (start + at) % 32) (length out - at)
+      → x ≡ over (take ((start + at) % 32 + n - (start + at) % 32) (drop ((start + at) % 32) k)) (take (length out - at) (drop at out))
       → take at out ++ (x ++ drop (length out - at) (drop at out))
       ≡ overAt at (take (at + n - at) (drop (start + at) (keystream w iv (start + length out)))) out
-  block-part out k x at n h e m c =
+  pair-part out k x at n h e m c =
       let p : ℕ = start + at in
-      let f : p % 16 + n - p % 16 ≡ n = omega arith in
-      let g : n ≡ at + n - at = omega arith in
-      let q : 16 * (p / 16) + p % 16 ≡ p = omega arith in
-      let part : take n (drop p (keystream w iv (start + length out))) ≡ take n (drop (p % 16) (keystreamBlock w iv (p / 16))) =
+      let j : ℕ = p / 32 * 2 in
+      let f : p % 32 + n - p % 32 ≡ n = omega arith in
+      let q : 16 * j + p % 32 ≡ p = omega arith in
+      let part : take n (drop p (keystream w iv (start + length out))) ≡ take n (drop (p % 32) (keystreamBlock w iv j ++ keystreamBlock w iv (j + 1))) =
       ap (λ (i : ℕ). take n (drop i (keystream w iv (start + length out)))) (sym q)
-      ∙ keystream-part w iv (start + length out) (p / 16) (p % 16) n (omega arith) (omega arith) in
-      ap (λ (l : List ℕ). take at out ++ (l ++ drop (length out - at) (drop at out)))
-      (c ∙ ap (λ (l : List ℕ). over l (take (length out - at) (drop at out))) (ap₂ (λ (i : ℕ) (l : List ℕ). take i (drop (p % 16) l)) f e ∙ sym part))
-      ∙ overAt-part at (length out - at) (take n (drop p (keystream w iv (start + length out)))) out (omega arith)
-      ∙ ap (λ (i : ℕ). overAt at (take i (drop p (keystream w iv (start + length out)))) out) g
+      ∙ keystream-pair w iv (start + length out) j (p % 32) n (omega arith) (omega arith) in
+      part-over out (take (p % 32 + n - p % 32) (drop (p % 32) k)) x at n (omega arith) (ap₂ (λ (i : ℕ) (l : List ℕ). take i (drop (p % 32) l)) f e ∙ sym part) c
+
+  -- the same where the pair is written whole
+  pub pair-whole : (out k x : List ℕ) (at : ℕ) → (start + at) % 32 ≡ 0 → 32 ≤ length out - at
+      → k ≡ keystreamBlock w iv ((start + at) / 32 * 2) ++ keystreamBlock w iv ((start + at) / 32 * 2 + 1)
+      → x ≡ over k (take (length out - at) (drop at out))
+      → take at out ++ (x ++ drop (length out - at) (drop at out))
+      ≡ overAt at (take (at + 32 - at) (drop (start + at) (keystream w iv (start + length out)))) out
+  pair-whole out k x at z m e c =
+      let j : ℕ = (start + at) / 32 * 2 in
+      let a : List ℕ = keystreamBlock w iv j in
+      let b : List ℕ = keystreamBlock w iv (j + 1) in
+      let q : 16 * j + 0 ≡ start + at = omega arith in
+      part-over out k x at 32 (omega arith)
+      (e
+      ∙ sym (take-all 32 (a ++ b) (omega (arith, length-append a b, length-block w iv j, length-block w iv (j + 1))))
+      ∙ sym (keystream-pair w iv (start + length out) j 0 32 (omega arith) (omega arith))
+      ∙ ap (λ (i : ℕ). take 32 (drop i (keystream w iv (start + length out)))) q)
+      c
+
+  -- as far as the series of byte p = start + at and the buffer reach: the words are the counter that stands there
+  pub series-part : (out x : List ℕ) (a b c d at n : ℕ) → at < length out
+      → words a b c d ≡ toBytes 16 ((iv + (start + at) / 4096 * 256) % 2 ^ 128)
+      → n ≡ min (4096 - (start + at) % 4096) (length out - at)
+      → x ≡ drop ((start + at) % 4096) (keystream w (fromBytes (words a b c d)) ((start + at) % 4096 + length (take (at + n - at) (drop at out))))
+      → take at out ++ (x ++ drop (at + n - at) (drop at out)) ≡ overAt at (take (at + n - at) (drop (start + at) (keystream w iv (start + length out)))) out
+  unfolding overAt over
+  series-part out x a b c d at n h e m f =
+      let p : ℕ = start + at in
+      let o : ℕ = p % 4096 in
+      let j : ℕ = p / 4096 * 256 in
+      let g : at + n - at ≡ n = omega arith in
+      let z : List ℕ = keystream w iv (start + length out) in
+      let r : ℕ = start + length out - 16 * j in
+      let y : List ℕ = keystream w (iv + j) r in
+      let q : 16 * j + o ≡ p = omega arith in
+      let k : start + length out ≡ 16 * j + r = omega arith in
+      let u : length (take (at + n - at) (drop at out)) ≡ n =
+      ap (λ (i : ℕ). length (take i (drop at out))) g ∙ length-take-le n (drop at out) (omega (arith, length-drop at out)) in
+      let behind : drop (16 * j) z ≡ y = ap (λ (i : ℕ). drop (16 * j) (keystream w iv i)) k ∙ keystream-behind w iv j r in
+      let part : take n (drop p z) ≡ drop o (keystream w (iv + j) (o + n)) =
+      ap (λ (i : ℕ). take n (drop i z)) (sym q)
+      ∙ ap (take n) (sym (drop-drop o (16 * j) z) ∙ ap (drop o) behind)
+      ∙ sym (drop-take o n y (omega (arith, length-keystream w (iv + j) r)))
+      ∙ ap (drop o) (take-keystream w (iv + j) (o + n) r (omega arith)) in
+      let here : x ≡ take n (drop p z) =
+      f ∙ ap (λ (i : ℕ). drop o (keystream w (fromBytes (words a b c d)) (o + i))) u
+      ∙ ap (drop o) (counted w a b c d (iv + j) (o + n) (e ∙ toBytes-low 16 16 (iv + j) (le-refl 16)))
+      ∙ sym part in
+      let l : length (take n (drop p z)) ≡ n = length-take-le n (drop p z) (omega (arith, length-drop p z, length-keystream w iv (start + length out))) in
+      ap (λ (s : List ℕ). take at out ++ (s ++ drop (at + n - at) (drop at out))) here
+      ∙ ap (λ (i : ℕ). take at out ++ (take n (drop p z) ++ drop i (drop at out))) (g ∙ sym l)
+      ∙ ap (λ (i : ℕ). overAt at (take i (drop p z)) out) (sym g)
 
   -- one turn of the loop
   pub next-block : (out₀ out out′ : List ℕ) (at to : ℕ) → at < to → to ≤ length out → length out ≡ length out₀

@@ -4,7 +4,6 @@ ghost use mathlib.Core.List.{List};
 ghost use Prim.Native.Nat.{ℕ, _+_, _^_, _≤_, _<_};
 ghost use lib.ListN.{length};
 ghost use Rattle.octets.specs.Buffer.{over};
-ghost use Rattle.aes.specs.SBox.{SBoxTable};
 ghost use Rattle.transforms.specs.Ciphers.{cipheredFrom};
 ghost use Rattle.transforms.specs.declared.Cipher.the-variants.{Aes};
 use crate::Cipher;
@@ -16,7 +15,6 @@ use crate::counter_mode::keystream_over;
 // Writes `text`, which starts at byte `start` of the packet's stream, under the cipher over the start of `out`. Deciphering is the same.
 // Neither cipher looks at the packet's clear part.
 pub fn encipher(
-    t: &[u8; 256],
     cipher: Cipher,
     keys: SessionKeys,
     ssrc: u32,
@@ -25,27 +23,17 @@ pub fn encipher(
     text: &[u8],
     out: &mut [u8],
 )
-    requires { ⌜ SBoxTable (now t) ⌝ }
     requires { ⌜ (index < 2 ^ 48) × (start + length (now text) ≤ 2 ^ 20) × (length (now text) ≤ length (now out)) ⌝ }
     ensures { λ _. ⌜ ((clear : List ℕ) → now (out .exit) ≡ over (cipheredFrom start cipher keys ssrc index clear (now (text .entry))) (now (out .entry))) ⌝ }
 {
     match cipher {
-        Cipher::Aes => counter_mode(t, keys, ssrc, index, start, text, out),
+        Cipher::Aes => counter_mode(keys, ssrc, index, start, text, out),
         Cipher::Null => octets::copy_over(text, out),
     }
 }
 
 // 4.1.1.
-fn counter_mode(
-    t: &[u8; 256],
-    keys: SessionKeys,
-    ssrc: u32,
-    index: u64,
-    start: usize,
-    text: &[u8],
-    out: &mut [u8],
-)
-    requires { ⌜ SBoxTable (now t) ⌝ }
+fn counter_mode(keys: SessionKeys, ssrc: u32, index: u64, start: usize, text: &[u8], out: &mut [u8])
     requires { ⌜ (index < 2 ^ 48) × (start + length (now text) ≤ 2 ^ 20) × (length (now text) ≤ length (now out)) ⌝ }
     ensures { λ _. ⌜ ((clear : List ℕ) → now (out .exit) ≡ over (cipheredFrom start Aes keys ssrc index clear (now (text .entry))) (now (out .entry))) ⌝ }
 {
@@ -53,6 +41,6 @@ fn counter_mode(
     let salt = keys.salt;
     let first = initial_counter(salt, ssrc, index);
     let n = text.len();
-    keystream_over(t, &w, first, start, &mut out[..n]);
+    keystream_over(&w, first, start, &mut out[..n]);
     xor_in(text, out);
 }

@@ -33,9 +33,9 @@ impl SessionKeys {
         let mut cipher_key = [0u8; SessionKeys::CIPHER_KEY_LEN];
         let mut tag_key = [0u8; SessionKeys::TAG_KEY_LEN];
         let mut session_salt = [0u8; SessionKeys::SALT_LEN];
-        derived(t, &w, salt, label, &mut cipher_key);
-        derived(t, &w, salt, label + 1, &mut tag_key);
-        derived(t, &w, salt, label + 2, &mut session_salt);
+        derived(&w, salt, label, &mut cipher_key);
+        derived(&w, salt, label + 1, &mut tag_key);
+        derived(&w, salt, label + 2, &mut session_salt);
         let round = aes::expand_128(t, cipher_key);
         let tag = sha1::hmac_key(&tag_key);
         SessionKeys {
@@ -48,11 +48,10 @@ impl SessionKeys {
 
 // Fills `out` with what a label gives under the master key, whose round keys are `w` (4.3.3). Label and r = 0 stand where SSRC and index
 // stand in a packet's initial counter.
-pub fn derived(t: &[u8; 256], w: &[u32], salt: [u8; 14], label: u8, out: &mut [u8])
-    requires { ⌜ SBoxTable (now t) ⌝ }
+pub fn derived(w: &[u32], salt: [u8; 14], label: u8, out: &mut [u8])
     requires { ⌜ (length (now w) ≡ 44) × (length (now out) ≤ 2 ^ 16) ⌝ }
     ensures { λ _. ⌜ ((key : List ℕ) → now (w .entry) ≡ keyExpansion 4 key → now (out .exit) ≡ derived key salt label (length (now (out .entry)))) ⌝ }
 {
     let first = initial_counter(salt, label as u32, 0);
-    keystream_over(t, w, first, 0, out);
+    keystream_over(w, first, 0, out);
 }

@@ -71,13 +71,17 @@ fn aes_256(t: &[u8; 256])
     block(t, b"FIPS 197 C.3", &w, 14, &text);
 }
 
-// Prints the cipher of one block.
+// Prints the cipher of one block, by the S-box and by the table of a round.
 fn block(t: &[u8; 256], name: &[u8], w: &[u32], nr: usize, text: &[u8])
     requires { ⌜ SBoxTable (now t) ⌝ }
     requires { ⌜ (0 < nr) × (4 * nr + 4 ≤ length (now w)) × (length (now text) ≡ 16) ⌝ }
 {
     let out = aes::encrypt_block(t, w, nr, State::load(text, 0)).bytes();
     hex::print_bytes(name, &out);
+    let by_table = aes_tables::round_table();
+    let again = aes_tables::encrypt_block(&by_table, w, nr, State::load(text, 0)).bytes();
+    io::write_all(1, b"by table, ");
+    hex::print_bytes(name, &again);
 }
 
 // Prints the words of an expanded key, a round key to a line.

@@ -27,34 +27,29 @@ fn keystream(t: &[u8; 256])
     hex::read(b"f0f1f2f3f4f5f6f7f8f9fafbfcfd", &mut salt);
     let round = aes::expand_128(t, key);
     let tag = sha1::hmac_key(b"");
-    low_blocks(t, SessionKeys { round, tag, salt });
-    high_blocks(t, SessionKeys { round, tag, salt });
+    low_blocks(SessionKeys { round, tag, salt });
+    high_blocks(SessionKeys { round, tag, salt });
 }
 
-fn low_blocks(t: &[u8; 256], keys: SessionKeys)
-    requires { ⌜ SBoxTable (now t) ⌝ }
-{
-    block(t, keys, b"RFC 3711 B.2 block 0000", 0x0000);
-    block(t, keys, b"RFC 3711 B.2 block 0001", 0x0001);
-    block(t, keys, b"RFC 3711 B.2 block 0002", 0x0002);
+fn low_blocks(keys: SessionKeys) {
+    block(keys, b"RFC 3711 B.2 block 0000", 0x0000);
+    block(keys, b"RFC 3711 B.2 block 0001", 0x0001);
+    block(keys, b"RFC 3711 B.2 block 0002", 0x0002);
 }
 
-fn high_blocks(t: &[u8; 256], keys: SessionKeys)
-    requires { ⌜ SBoxTable (now t) ⌝ }
-{
-    block(t, keys, b"RFC 3711 B.2 block feff", 0xfeff);
-    block(t, keys, b"RFC 3711 B.2 block ff00", 0xff00);
-    block(t, keys, b"RFC 3711 B.2 block ff01", 0xff01);
+fn high_blocks(keys: SessionKeys) {
+    block(keys, b"RFC 3711 B.2 block feff", 0xfeff);
+    block(keys, b"RFC 3711 B.2 block ff00", 0xff00);
+    block(keys, b"RFC 3711 B.2 block ff01", 0xff01);
 }
 
 // Prints block j of the keystream: what zeros become at byte 16 * j.
-fn block(t: &[u8; 256], keys: SessionKeys, name: &[u8], j: usize)
-    requires { ⌜ SBoxTable (now t) ⌝ }
+fn block(keys: SessionKeys, name: &[u8], j: usize)
     requires { ⌜ j < 0x10000 ⌝ }
 {
     let zeros = [0u8; 16];
     let mut out = [0u8; 16];
-    transforms::encipher(t, Cipher::Aes, keys, 0, 0, 16 * j, &zeros, &mut out);
+    transforms::encipher(Cipher::Aes, keys, 0, 0, 16 * j, &zeros, &mut out);
     hex::print_bytes(name, &out);
 }
 
@@ -66,9 +61,9 @@ fn media_labels(t: &[u8; 256])
     let mut key = [0u8; 16];
     let mut tag_key = [0u8; 94];
     let mut salt = [0u8; 14];
-    label(t, &w, b"RFC 3711 B.3 label 0", 0, &mut key);
-    label(t, &w, b"RFC 3711 B.3 label 1", 1, &mut tag_key);
-    label(t, &w, b"RFC 3711 B.3 label 2", 2, &mut salt);
+    label(&w, b"RFC 3711 B.3 label 0", 0, &mut key);
+    label(&w, b"RFC 3711 B.3 label 1", 1, &mut tag_key);
+    label(&w, b"RFC 3711 B.3 label 2", 2, &mut salt);
 }
 
 // The same of the labels for control packets, which B.3 leaves out.
@@ -79,17 +74,16 @@ fn control_labels(t: &[u8; 256])
     let mut key = [0u8; 16];
     let mut tag_key = [0u8; 20];
     let mut salt = [0u8; 14];
-    label(t, &w, b"RFC 3711 4.3.2 label 3", 3, &mut key);
-    label(t, &w, b"RFC 3711 4.3.2 label 4", 4, &mut tag_key);
-    label(t, &w, b"RFC 3711 4.3.2 label 5", 5, &mut salt);
+    label(&w, b"RFC 3711 4.3.2 label 3", 3, &mut key);
+    label(&w, b"RFC 3711 4.3.2 label 4", 4, &mut tag_key);
+    label(&w, b"RFC 3711 4.3.2 label 5", 5, &mut salt);
 }
 
 // Prints what a label gives, as many bytes as `out` has.
-fn label(t: &[u8; 256], w: &[u32], name: &[u8], label: u8, out: &mut [u8])
-    requires { ⌜ SBoxTable (now t) ⌝ }
+fn label(w: &[u32], name: &[u8], label: u8, out: &mut [u8])
     requires { ⌜ (length (now w) ≡ 44) × (length (now out) ≤ 94) ⌝ }
 {
-    transforms::derived(t, w, master_salt(), label, out);
+    transforms::derived(w, master_salt(), label, out);
     hex::print_bytes(name, out);
 }
 
@@ -115,16 +109,14 @@ fn media_packet(t: &[u8; 256])
         b"800f1234decafbadcafebabe00000000000000000000000000000000",
         &mut packet,
     );
-    protect_media(t, keys, &mut packet);
+    protect_media(keys, &mut packet);
 }
 
-fn protect_media(t: &[u8; 256], keys: SessionKeys, packet: &mut [u8])
-    requires { ⌜ SBoxTable (now t) ⌝ }
+fn protect_media(keys: SessionKeys, packet: &mut [u8])
     requires { ⌜ length (now packet) ≡ 28 ⌝ }
 {
     let payload = [0xabu8; 16];
     transforms::encipher(
-        t,
         Cipher::Aes,
         keys,
         0xcafe_babe,
@@ -147,16 +139,14 @@ fn control_packet(t: &[u8; 256])
         b"81c8000bcafebabe0000000000000000000000000000000080000000",
         &mut packet,
     );
-    protect_control(t, keys, &mut packet);
+    protect_control(keys, &mut packet);
 }
 
-fn protect_control(t: &[u8; 256], keys: SessionKeys, packet: &mut [u8])
-    requires { ⌜ SBoxTable (now t) ⌝ }
+fn protect_control(keys: SessionKeys, packet: &mut [u8])
     requires { ⌜ length (now packet) ≡ 28 ⌝ }
 {
     let rest = [0xabu8; 16];
     transforms::encipher(
-        t,
         Cipher::Aes,
         keys,
         0xcafe_babe,

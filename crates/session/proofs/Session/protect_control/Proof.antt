@@ -18,9 +18,6 @@ mki-long s = search needs
 encrypts-requires : tie.Need-encrypts-requires
 encrypts-requires c κs = search needs
 
-sbox-requires : tie.Need-sbox-requires
-sbox-requires c κs = search needs
-
 cipher-control-requires : tie.Need-cipher-control-requires
 cipher-control-requires c κs = search needs
 
@@ -49,18 +46,18 @@ array-share-prefix-tag : tie.Need-array-share-prefix-tag
 array-share-prefix-tag c = search needs
 
 slice-aggregate-finish : tie.Need-slice-aggregate-finish
-slice-aggregate-finish c = simp length-take (omega (arith, c .before .before .before .before .before .before .before .before .before .before .before .before .before .before .before .before .before .before .before .before .pre))
+slice-aggregate-finish c = simp length-take (omega (arith, c .before .before .before .before .before .before .before .before .before .before .before .before .before .before .before .before .before .before .pre))
 
 finish-requires : tie.Need-finish-requires
-finish-requires c κs = simp length-take (omega (arith, c .before .before .before .before .before .before .before .before .before .before .before .before .before .before .before .before .before .before .before .before .before .pre))
+finish-requires c κs = simp length-take (omega (arith, c .before .before .before .before .before .before .before .before .before .before .before .before .before .before .before .before .before .before .before .pre))
 
 same-length : tie.Need-same-length
 same-length c = search needs
 
 returns : tie.Need-returns
-returns c = let s = c .before .before .before .before .before .before .before .before .before .before .before .before .before .before .before .before .before .before .before .before .before .before .before .before in
+returns c = let s = c .before .before .before .before .before .before .before .before .before .before .before .before .before .before .before .before .before .before .before .before .before .before in
     let a = s .args in
-    let x = c .before .before .before .before .before .before .before .before .before .before .before .before .before .before .before .before .before .before .before .encrypts .ensures in
+    let x = c .before .before .before .before .before .before .before .before .before .before .before .before .before .before .before .before .before .encrypts .ensures in
     control-written (a .self) _ _ _ _ _ _ _ (mki-long s) (s .pre .1 .0) (encrypts (cipherOf (a .self))) _ _
     (c .before .before .before .before .before .before .before .before .before .before .before .before .before .before .before .cipher-control .ensures ∙ ap (λ (e : Bool). over (cipheredControl (a .self) e (now (a .packet)) (a .index)) (now (a .out))) x)
     (c .before .before .before .before .before .before .before .before .before .before .before .before .index-word .ensures ∙ ap (λ (e : Bool). indexWord e (a .index)) x)
@@ -71,7 +68,6 @@ protect-control-spec =
     tie.close
     (tie.spec
     encrypts-requires
-    sbox-requires
     cipher-control-requires
     cast-index-word
     index-word-requires

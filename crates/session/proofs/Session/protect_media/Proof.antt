@@ -10,9 +10,6 @@ use Rattle.session.proofs.Session.protect_media.Tie as tie
 mki-long : (s : tie.Start) → length (s .args .self .settings .mki) ≡ 4
 mki-long s = search needs
 
-sbox-requires : tie.Need-sbox-requires
-sbox-requires c κs = search needs
-
 cipher-media-requires : tie.Need-cipher-media-requires
 cipher-media-requires c κs = search needs
 
@@ -29,17 +26,17 @@ array-share-prefix-tag : tie.Need-array-share-prefix-tag
 array-share-prefix-tag c = search needs
 
 slice-aggregate-finish : tie.Need-slice-aggregate-finish
-slice-aggregate-finish c = simp length-take (omega (arith, c .before .before .before .before .before .before .before .before .before .before .before .before .before .before .pre))
+slice-aggregate-finish c = simp length-take (omega (arith, c .before .before .before .before .before .before .before .before .before .before .before .before .pre))
 
 finish-requires : tie.Need-finish-requires
-finish-requires c κs = simp length-take (omega (arith, c .before .before .before .before .before .before .before .before .before .before .before .before .before .before .before .pre))
+finish-requires c κs = simp length-take (omega (arith, c .before .before .before .before .before .before .before .before .before .before .before .before .before .pre))
 
 same-length : tie.Need-same-length
 same-length c = search needs
 
 returns : tie.Need-returns
 returns c =
-    let s = c .before .before .before .before .before .before .before .before .before .before .before .before .before .before .before .before .before .before in
+    let s = c .before .before .before .before .before .before .before .before .before .before .before .before .before .before .before .before in
     media-written (s .args .self) _ _ _ _ _ _ _ (mki-long s) (s .pre .1 .1 .0 .0) (omega (arith, s .pre .1 .1 .0)) (omega (arith, s .pre .1 .1 .0))
     (c .before .before .before .before .before .before .before .before .before .before .before .before .cipher-media .ensures)
     (c .before .before .before .before .before .media-tag .ensures)
@@ -49,7 +46,6 @@ pub protect-media-spec : {M : Type 1} → statement M
 protect-media-spec =
     tie.close
     (tie.spec
-    sbox-requires
     cipher-media-requires
     slice-reshare-prefix-media-tag
     slice-aggregate-media-tag

@@ -40,7 +40,7 @@ returns : tie.Need-returns
 returns c =
     let s = c .before .before .before .before .before .before .before .before .before .before .before .before .before in
     let a = s .args in
-    wrote-behind (a .self) (a .keys) (a .index) (a .clear) (now (a .packet)) (now (a .out)) _ (s .pre .1 .0) (c .before .before .before .before .before .before .before .copy-over .ensures) _ (c .before .before .encipher .ensures _)
+    wrote-behind (a .self) (a .keys) (a .index) (a .clear) (now (a .packet)) (now (a .out)) _ (s .pre .0) (c .before .before .before .before .before .before .before .copy-over .ensures) _ (c .before .before .encipher .ensures _)
 
 pub cipher-behind-spec : {M : Type 1} → statement M
 cipher-behind-spec =

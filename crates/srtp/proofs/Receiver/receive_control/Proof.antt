@@ -26,14 +26,11 @@ enum-known-verdict c = search needs
 enum-known-verdict-2 : tie.Need-enum-known-verdict-2
 enum-known-verdict-2 c = search needs
 
-sbox-requires : tie.Need-sbox-requires
-sbox-requires c κs = search needs
-
 slice-aggregate-cipher-control : tie.Need-slice-aggregate-cipher-control
-slice-aggregate-cipher-control c = sym (passed (c .before .before .before .before .before .before .before) (c .before .before .before .before .before .verdict2 .given .1) .whole)
+slice-aggregate-cipher-control c = sym (passed (c .before .before .before .before .before) (c .before .before .before .verdict2 .given .1) .whole)
 
 cipher-control-requires : tie.Need-cipher-control-requires
-cipher-control-requires c κs = let o = passed (c .before .before .before .before .before .before .before .before) (c .before .before .before .before .before .before .verdict2 .given .1) in (c .before .before .before .sbox .ensures, (o .least, (o .bound, o .short, o .enough)))
+cipher-control-requires c κs = let o = passed (c .before .before .before .before .before .before) (c .before .before .before .before .verdict2 .given .1) in (o .least, (o .bound, o .short, o .enough))
 
 mark-requires : tie.Need-mark-requires
 mark-requires c κs = search needs
@@ -45,7 +42,7 @@ same-length : tie.Need-same-length
 same-length c = search needs
 
 returns-2 : tie.Need-returns-2
-returns-2 c = control-shows (passed (c .before .before .before .before .before .before .before .before .before .before .before .before .before .before) (c .before .before .before .before .before .before .before .before .before .before .before .before .verdict2 .given .1)) (c .before .before .before .before .before .cipher-control .ensures) (ap (λ (m : Marked). m .next) (c .before .mark .ensures))
+returns-2 c = control-shows (passed (c .before .before .before .before .before .before .before .before .before .before .before .before) (c .before .before .before .before .before .before .before .before .before .before .verdict2 .given .1)) (c .before .before .before .before .before .cipher-control .ensures) (ap (λ (m : Marked). m .next) (c .before .mark .ensures))
 
 pub receive-control-spec : {M : Type 1} → statement M
 receive-control-spec =
@@ -54,7 +51,6 @@ receive-control-spec =
     judge-control-requires
     enum-known-verdict
     enum-known-verdict-2
-    sbox-requires
     slice-aggregate-cipher-control
     cipher-control-requires
     mark-requires

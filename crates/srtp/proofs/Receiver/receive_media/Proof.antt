@@ -25,14 +25,11 @@ enum-known-verdict c = search needs
 enum-known-verdict-2 : tie.Need-enum-known-verdict-2
 enum-known-verdict-2 c = search needs
 
-sbox-requires : tie.Need-sbox-requires
-sbox-requires c κs = search needs
-
 slice-aggregate-cipher-media : tie.Need-slice-aggregate-cipher-media
-slice-aggregate-cipher-media c = sym (passed (c .before .before .before .before .before .before .before) (c .before .before .before .before .before .verdict2 .given .1) .whole)
+slice-aggregate-cipher-media c = sym (passed (c .before .before .before .before .before) (c .before .before .before .verdict2 .given .1) .whole)
 
 cipher-media-requires : tie.Need-cipher-media-requires
-cipher-media-requires c κs = let o = passed (c .before .before .before .before .before .before .before .before) (c .before .before .before .before .before .before .verdict2 .given .1) in (c .before .before .before .sbox .ensures, ((o .size, o .fits), (o .bound, o .short, o .enough)))
+cipher-media-requires c κs = let o = passed (c .before .before .before .before .before .before) (c .before .before .before .before .verdict2 .given .1) in ((o .size, o .fits), (o .bound, o .short, o .enough))
 
 mark-requires : tie.Need-mark-requires
 mark-requires c κs = search needs
@@ -44,7 +41,7 @@ same-length : tie.Need-same-length
 same-length c = search needs
 
 returns-2 : tie.Need-returns-2
-returns-2 c = media-shows (passed (c .before .before .before .before .before .before .before .before .before .before .before .before .before .before) (c .before .before .before .before .before .before .before .before .before .before .before .before .verdict2 .given .1)) (c .before .before .before .before .before .cipher-media .ensures) (ap (λ (m : Marked). m .next) (c .before .mark .ensures))
+returns-2 c = media-shows (passed (c .before .before .before .before .before .before .before .before .before .before .before .before) (c .before .before .before .before .before .before .before .before .before .before .verdict2 .given .1)) (c .before .before .before .before .before .cipher-media .ensures) (ap (λ (m : Marked). m .next) (c .before .mark .ensures))
 
 pub receive-media-spec : {M : Type 1} → statement M
 receive-media-spec =
@@ -53,7 +50,6 @@ receive-media-spec =
     judge-media-requires
     enum-known-verdict
     enum-known-verdict-2
-    sbox-requires
     slice-aggregate-cipher-media
     cipher-media-requires
     mark-requires

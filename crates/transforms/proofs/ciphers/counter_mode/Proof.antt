@@ -25,7 +25,7 @@ keystream-over-requires : tie.Need-keystream-over-requires
 keystream-over-requires c κs =
     let x = c .before .before .before .before .before .before .before .args in
     let l : length (take (length (x .text .now)) (x .out .now)) ≡ length (x .text .now) = length-take-le (length (x .text .now)) (x .out .now) (omega arith) in
-    (search needs, search needs)
+    (search needs, search needs, search needs)
 
 xor-in-requires : tie.Need-xor-in-requires
 xor-in-requires c κs = search needs

@@ -1,0 +1,4 @@
+mod TableRule
+pub mod RoundLaws
+mod SeriesLaws
+pub mod Agreement

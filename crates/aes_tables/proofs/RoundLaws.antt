@@ -1,0 +1,120 @@
+-- A round by table is a round of FIPS 197. Assumes nothing.
+use mathlib.Core.List.{List, [], _∷_}
+use mathlib.Core.Path.{_≡_, refl, sym, ap, ap₂, _∙_}
+use Prim.Native.Nat.{ℕ, suc, _+_, _-_, _*_, _/_, _%_, _^_, _<_, _≤_}
+use native.Mathlib.Omega.{arith}
+use lib.Bits.{bitXor, xor-comm}
+use Rattle.aes.proofs.StateLaws.{added-words}
+use Rattle.aes.specs.Cipher.{mixColumn, addRoundKey, roundKey, roundOf, lastRoundOf, rounds, cipher}
+use Rattle.aes.specs.Columns.{block}
+use Rattle.aes.specs.SBox.{sBox}
+use Rattle.aes.specs.declared.State.{State}
+use Rattle.octets.proofs.BigEndianLaws.{byte-is, byte-lt, byte-low, toBytes-xor}
+use Rattle.octets.proofs.XorLaws.{xor-assoc}
+use Rattle.octets.specs.BigEndian.{byte, toBytes}
+use Rattle.octets.specs.Xor.{xors}
+use Rattle.aes_tables.specs.Table.{word, entry, cell, RoundTable}
+use Rattle.aes_tables.specs.Rounds.{state, rowBy, roundBy, keyState, addedTo}
+
+-- row r of the entry of the byte that stands in row r of a column
+pub row-of : (t : List ℕ) (r a v : ℕ) → r < 4 → v ≡ entry t (a / 2 ^ (24 - 8 * r) % 2 ^ 8) → word r v ≡ rowBy t r a
+unfolding cell
+row-of t r a v h e =
+    let k : 24 - 8 * r ≡ 8 * (3 - r) = omega arith in
+    ap (word r) (e ∙ ap (λ (n : ℕ). entry t (a / 2 ^ n % 2 ^ 8)) k ∙ ap (entry t) (sym (byte-is (3 - r) a)))
+
+-- the lowest byte of row 1
+pub substitute : (t : List ℕ) → RoundTable t → (b v : ℕ) → b < 256 → v ≡ entry t b → v / 2 ^ 8 % 2 ^ 8 ≡ sBox b
+unfolding cell
+substitute t h b v k e = ap (λ (n : ℕ). n / 2 ^ 8 % 2 ^ 8) e ∙ sym (byte-low 0 4 (entry t b / 2 ^ 8) (omega arith)) ∙ last (word 1 (entry t b)) (h .rows 1 b (omega arith) k)
+  where
+    last : (x : ℕ) {p q r s : ℕ} → toBytes 4 x ≡ p ∷ q ∷ r ∷ s ∷ [] → byte 0 x ≡ s
+    last x e = cc
+
+-- ---- the terms of a column, in another order
+
+pub swap : (a b c : ℕ) → bitXor (bitXor a b) c ≡ bitXor (bitXor a c) b
+swap a b c = xor-assoc a b c ∙ ap (bitXor a) (xor-comm b c) ∙ sym (xor-assoc a c b)
+
+first-last : (p q r s : ℕ) → bitXor (bitXor (bitXor p q) r) s ≡ bitXor (bitXor (bitXor q r) s) p
+first-last p q r s = ap (λ (x : ℕ). bitXor x s) (xor-assoc p q r) ∙ xor-assoc p (bitXor q r) s ∙ xor-comm p (bitXor (bitXor q r) s)
+
+key-last : (k p q r s : ℕ) → bitXor (bitXor (bitXor (bitXor k p) q) r) s ≡ bitXor (bitXor (bitXor (bitXor p q) r) s) k
+key-last k p q r s = ap (λ (x : ℕ). bitXor x s) (first-last k p q r) ∙ swap (bitXor (bitXor p q) r) k s
+
+pub same-state : {a b c d a′ b′ c′ d′ : ℕ} → a ≡ a′ → b ≡ b′ → c ≡ c′ → d ≡ d′ → state a b c d ≡ state a′ b′ c′ d′
+same-state p q r s = cc
+
+-- ---- a round, column by column
+
+-- a column of SubBytes, ShiftRows and MixColumns, or without the last: row 0 from a, row 1 from b, row 2 from c, row 3 from d
+abbrev columnBy : (t : List ℕ) (a b c d : ℕ) → ℕ
+columnBy t a b c d = bitXor (bitXor (bitXor (rowBy t 0 a) (rowBy t 1 b)) (rowBy t 2 c)) (rowBy t 3 d)
+
+by-columns : (t : List ℕ) (s k : State)
+    → roundBy t s k
+    ≡ state (bitXor (columnBy t (s .c0) (s .c1) (s .c2) (s .c3)) (k .c0)) (bitXor (columnBy t (s .c1) (s .c2) (s .c3) (s .c0)) (k .c1))
+    (bitXor (columnBy t (s .c2) (s .c3) (s .c0) (s .c1)) (k .c2)) (bitXor (columnBy t (s .c3) (s .c0) (s .c1) (s .c2)) (k .c3))
+by-columns t s k = same-state
+    (key-last (k .c0) (r 0 (s .c0)) (r 1 (s .c1)) (r 2 (s .c2)) (r 3 (s .c3)))
+    (key-last (k .c1) (r 3 (s .c0)) (r 0 (s .c1)) (r 1 (s .c2)) (r 2 (s .c3))
+    ∙ ap (λ (x : ℕ). bitXor x (k .c1)) (first-last (r 3 (s .c0)) (r 0 (s .c1)) (r 1 (s .c2)) (r 2 (s .c3))))
+    (key-last (k .c2) (r 2 (s .c0)) (r 3 (s .c1)) (r 0 (s .c2)) (r 1 (s .c3))
+    ∙ ap (λ (x : ℕ). bitXor x (k .c2))
+    (first-last (r 2 (s .c0)) (r 3 (s .c1)) (r 0 (s .c2)) (r 1 (s .c3)) ∙ first-last (r 3 (s .c1)) (r 0 (s .c2)) (r 1 (s .c3)) (r 2 (s .c0))))
+    (key-last (k .c3) (r 1 (s .c0)) (r 2 (s .c1)) (r 3 (s .c2)) (r 0 (s .c3))
+    ∙ ap (λ (x : ℕ). bitXor x (k .c3))
+    (first-last (r 1 (s .c0)) (r 2 (s .c1)) (r 3 (s .c2)) (r 0 (s .c3)) ∙ first-last (r 2 (s .c1)) (r 3 (s .c2)) (r 0 (s .c3)) (r 1 (s .c0))
+    ∙ first-last (r 3 (s .c2)) (r 0 (s .c3)) (r 1 (s .c0)) (r 2 (s .c1))))
+  where
+    r : ℕ → ℕ → ℕ
+    r i a = rowBy t i a
+
+xor-of : (x y : ℕ) {a b : List ℕ} → toBytes 4 x ≡ a → toBytes 4 y ≡ b → toBytes 4 (bitXor x y) ≡ xors a b
+xor-of x y p q = toBytes-xor 4 x y ∙ ap₂ xors p q
+
+mixed-column : (t : List ℕ) → RoundTable t → (a b c d : ℕ)
+    → toBytes 4 (columnBy t a b c d) ≡ mixColumn (sBox (byte 3 a)) (sBox (byte 2 b)) (sBox (byte 1 c)) (sBox (byte 0 d))
+mixed-column t h a b c d =
+    let w : ℕ = rowBy t 0 a in
+    let x : ℕ = rowBy t 1 b in
+    let y : ℕ = rowBy t 2 c in
+    let z : ℕ = rowBy t 3 d in
+    xor-of (bitXor (bitXor w x) y) z
+    (xor-of (bitXor w x) y
+    (xor-of w x (h .rows 0 (byte 3 a) (omega arith) (byte-lt 3 a)) (h .rows 1 (byte 2 b) (omega arith) (byte-lt 2 b)))
+    (h .rows 2 (byte 1 c) (omega arith) (byte-lt 1 c)))
+    (h .rows 3 (byte 0 d) (omega arith) (byte-lt 0 d))
+
+pub round-by : (t : List ℕ) → RoundTable t → (s k : State) → block (roundBy t s k) ≡ roundOf (block s) (block k)
+round-by t h s k =
+    ap block (by-columns t s k)
+    ∙ added-words (columnBy t (s .c0) (s .c1) (s .c2) (s .c3)) (columnBy t (s .c1) (s .c2) (s .c3) (s .c0))
+    (columnBy t (s .c2) (s .c3) (s .c0) (s .c1)) (columnBy t (s .c3) (s .c0) (s .c1) (s .c2)) (k .c0) (k .c1) (k .c2) (k .c3)
+    (mixed-column t h (s .c0) (s .c1) (s .c2) (s .c3)) (mixed-column t h (s .c1) (s .c2) (s .c3) (s .c0))
+    (mixed-column t h (s .c2) (s .c3) (s .c0) (s .c1)) (mixed-column t h (s .c3) (s .c0) (s .c1) (s .c2))
+
+pub added-to : (s k : State) → block (addedTo s k) ≡ addRoundKey (block s) (block k)
+added-to s k = added-words (s .c0) (s .c1) (s .c2) (s .c3) (k .c0) (k .c1) (k .c2) (k .c3) refl refl refl refl
+
+-- ---- the loop over the rounds
+
+module _ (t : List ℕ) (w : List ℕ) (h : RoundTable t) (z : List ℕ) where
+  -- one turn: x has gone through rounds 1 to i - 1
+  pub next-round : (i : ℕ) (x k r : State) → 1 ≤ i → k ≡ keyState w i → r ≡ roundBy t x k → block x ≡ rounds w (i - 1) z → block r ≡ rounds w (i + 1 - 1) z
+  unfolding rounds
+  next-round i x k r p e f q =
+      let m : i ≡ suc (i - 1) = omega arith in
+      let n : i + 1 - 1 ≡ suc (i - 1) = omega arith in
+      ap block f
+      ∙ round-by t h x k
+      ∙ ap₂ roundOf q (ap block e)
+      ∙ ap (λ (j : ℕ). roundOf (rounds w (i - 1) z) (roundKey w j)) m
+      ∙ sym (ap (λ (j : ℕ). rounds w j z) n)
+
+-- its end
+pub all-rounds : (w s : List ℕ) (i nr : ℕ) (x k r : State) → i ≡ nr → k ≡ keyState w nr → block r ≡ lastRoundOf (block x) (block k)
+    → block x ≡ rounds w (i - 1) (addRoundKey s (roundKey w 0)) → block r ≡ cipher w nr s
+unfolding cipher
+all-rounds w s i nr x k r e f g q =
+    g ∙ ap₂ lastRoundOf q (ap block f) ∙ ap (λ (n : ℕ). lastRoundOf (rounds w (n - 1) (addRoundKey s (roundKey w 0))) (roundKey w nr)) e

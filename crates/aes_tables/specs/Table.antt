@@ -1,0 +1,32 @@
+-- What a byte adds to a column of a round (FIPS 197, 5.1.1 and 5.1.3), and the table of it. Assumes nothing.
+use Prim.Native.Nat.{ℕ, zero, suc, _+_, _*_, _/_, _%_, _^_, _<_}
+use mathlib.Core.Path.{_≡_}
+use mathlib.Core.List.{List, [], _∷_}
+use lib.ListN.{length, getD}
+use Rattle.octets.specs.BigEndian.{toBytes}
+use Rattle.aes.specs.Field.{mul}
+use Rattle.aes.specs.SBox.{sBox}
+
+-- the products of s that MixColumns adds to the four bytes of a column, where s stands in row r of it: column r of the matrix of 5.1.3
+abbrev pub products : ℕ → ℕ → List ℕ
+products zero s = mul 2 s ∷ s ∷ s ∷ mul 3 s ∷ []
+products (suc zero) s = mul 3 s ∷ mul 2 s ∷ s ∷ s ∷ []
+products (suc (suc zero)) s = s ∷ mul 3 s ∷ mul 2 s ∷ s ∷ []
+products (suc (suc (suc r))) s = s ∷ s ∷ mul 3 s ∷ mul 2 s ∷ []
+
+-- the word that begins r bytes up
+abbrev pub word : ℕ → ℕ → ℕ
+word r v = v / 2 ^ (8 * r) % 2 ^ 32
+
+-- the two words of byte x as one number, the second above the first
+abbrev pub entry : List ℕ → ℕ → ℕ
+entry t x = getD t (2 * x + 1) 0 * 2 ^ 32 + getD t (2 * x) 0
+
+-- row r of entry x
+unfoldable pub cell : List ℕ → ℕ → ℕ → ℕ
+cell t r x = word r (entry t x)
+
+-- the table: in each row of a byte's entry what its substitute adds
+pub record RoundTable (t : List ℕ) : Type 0 where
+  pub size : length t ≡ 512
+  pub rows : (r x : ℕ) → r < 4 → x < 256 → toBytes 4 (cell t r x) ≡ products r (sBox x)

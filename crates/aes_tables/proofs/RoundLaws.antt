@@ -1,9 +1,11 @@
 -- A round by table is a round of FIPS 197. Assumes nothing.
-use mathlib.Core.List.{List, [], _∷_}
+use mathlib.Core.List.{List, [], _∷_, _++_}
 use mathlib.Core.Path.{_≡_, refl, sym, ap, ap₂, _∙_}
 use Prim.Native.Nat.{ℕ, suc, _+_, _-_, _*_, _/_, _%_, _^_, _<_, _≤_}
 use native.Mathlib.Omega.{arith}
-use lib.Bits.{bitXor, xor-comm}
+use lib.Bits.{bitXor, xor-comm, xor-zero-l, xor-zero-r}
+use lib.ListN.{length, take, drop, length-drop}
+use lib.Seq.{take-all}
 use Rattle.aes.proofs.StateLaws.{added-words}
 use Rattle.aes.specs.Cipher.{mixColumn, addRoundKey, roundKey, roundOf, lastRoundOf, rounds, cipher}
 use Rattle.aes.specs.Columns.{block}
@@ -13,7 +15,7 @@ use Rattle.octets.proofs.BigEndianLaws.{byte-is, byte-lt, byte-low, toBytes-xor
 use Rattle.octets.proofs.XorLaws.{xor-assoc}
 use Rattle.octets.specs.BigEndian.{byte, toBytes}
 use Rattle.octets.specs.Xor.{xors}
-use Rattle.aes_tables.specs.Table.{word, entry, cell, RoundTable}
+use Rattle.aes_tables.specs.Table.{products, alone, word, entry, cell, Rows, RoundTable}
 use Rattle.aes_tables.specs.Rounds.{state, rowBy, roundBy, keyState, addedTo}
 
 -- row r of the entry of the byte that stands in row r of a column
@@ -22,14 +24,6 @@ unfolding cell
 row-of t r a v h e =
     let k : 24 - 8 * r ≡ 8 * (3 - r) = omega arith in
     ap (word r) (e ∙ ap (λ (n : ℕ). entry t (a / 2 ^ n % 2 ^ 8)) k ∙ ap (entry t) (sym (byte-is (3 - r) a)))
-
--- the lowest byte of row 1
-pub substitute : (t : List ℕ) → RoundTable t → (b v : ℕ) → b < 256 → v ≡ entry t b → v / 2 ^ 8 % 2 ^ 8 ≡ sBox b
-unfolding cell
-substitute t h b v k e = ap (λ (n : ℕ). n / 2 ^ 8 % 2 ^ 8) e ∙ sym (byte-low 0 4 (entry t b / 2 ^ 8) (omega arith)) ∙ last (word 1 (entry t b)) (h .rows 1 b (omega arith) k)
-  where
-    last : (x : ℕ) {p q r s : ℕ} → toBytes 4 x ≡ p ∷ q ∷ r ∷ s ∷ [] → byte 0 x ≡ s
-    last x e = cc
 
 -- ---- the terms of a column, in another order
 
@@ -47,7 +41,7 @@ same-state p q r s = cc
 
 -- ---- a round, column by column
 
--- a column of SubBytes, ShiftRows and MixColumns, or without the last: row 0 from a, row 1 from b, row 2 from c, row 3 from d
+-- a column of SubBytes, ShiftRows and MixColumns, or without the last, as the table has it: row 0 from a, row 1 from b, row 2 from c, row 3 from d
 abbrev columnBy : (t : List ℕ) (a b c d : ℕ) → ℕ
 columnBy t a b c d = bitXor (bitXor (bitXor (rowBy t 0 a) (rowBy t 1 b)) (rowBy t 2 c)) (rowBy t 3 d)
 
@@ -73,26 +67,60 @@ by-columns t s k = same-state
 xor-of : (x y : ℕ) {a b : List ℕ} → toBytes 4 x ≡ a → toBytes 4 y ≡ b → toBytes 4 (bitXor x y) ≡ xors a b
 xor-of x y p q = toBytes-xor 4 x y ∙ ap₂ xors p q
 
-mixed-column : (t : List ℕ) → RoundTable t → (a b c d : ℕ)
-    → toBytes 4 (columnBy t a b c d) ≡ mixColumn (sBox (byte 3 a)) (sBox (byte 2 b)) (sBox (byte 1 c)) (sBox (byte 0 d))
-mixed-column t h a b c d =
+-- the round whose columns are g of the four columns that they come from
+round-columns : (t : List ℕ) (g : (a b c d : ℕ) → List ℕ) → ((a b c d : ℕ) → toBytes 4 (columnBy t a b c d) ≡ g a b c d) → (s k : State)
+    → block (roundBy t s k)
+    ≡ xors (g (s .c0) (s .c1) (s .c2) (s .c3)) (toBytes 4 (k .c0)) ++ xors (g (s .c1) (s .c2) (s .c3) (s .c0)) (toBytes 4 (k .c1))
+    ++ xors (g (s .c2) (s .c3) (s .c0) (s .c1)) (toBytes 4 (k .c2)) ++ xors (g (s .c3) (s .c0) (s .c1) (s .c2)) (toBytes 4 (k .c3))
+round-columns t g h s k =
+    ap block (by-columns t s k)
+    ∙ added-words (columnBy t (s .c0) (s .c1) (s .c2) (s .c3)) (columnBy t (s .c1) (s .c2) (s .c3) (s .c0))
+    (columnBy t (s .c2) (s .c3) (s .c0) (s .c1)) (columnBy t (s .c3) (s .c0) (s .c1) (s .c2)) (k .c0) (k .c1) (k .c2) (k .c3)
+    (h (s .c0) (s .c1) (s .c2) (s .c3)) (h (s .c1) (s .c2) (s .c3) (s .c0)) (h (s .c2) (s .c3) (s .c0) (s .c1)) (h (s .c3) (s .c0) (s .c1) (s .c2))
+
+-- a column, by a table of f
+column : (t : List ℕ) (f : ℕ → ℕ → List ℕ) → Rows f t → (a b c d : ℕ)
+    → toBytes 4 (columnBy t a b c d) ≡ xors (xors (xors (f 0 (sBox (byte 3 a))) (f 1 (sBox (byte 2 b)))) (f 2 (sBox (byte 1 c)))) (f 3 (sBox (byte 0 d)))
+column t f h a b c d =
     let w : ℕ = rowBy t 0 a in
     let x : ℕ = rowBy t 1 b in
     let y : ℕ = rowBy t 2 c in
     let z : ℕ = rowBy t 3 d in
     xor-of (bitXor (bitXor w x) y) z
     (xor-of (bitXor w x) y
-    (xor-of w x (h .rows 0 (byte 3 a) (omega arith) (byte-lt 3 a)) (h .rows 1 (byte 2 b) (omega arith) (byte-lt 2 b)))
-    (h .rows 2 (byte 1 c) (omega arith) (byte-lt 1 c)))
-    (h .rows 3 (byte 0 d) (omega arith) (byte-lt 0 d))
+    (xor-of w x (h 0 (byte 3 a) (omega arith) (byte-lt 3 a)) (h 1 (byte 2 b) (omega arith) (byte-lt 2 b)))
+    (h 2 (byte 1 c) (omega arith) (byte-lt 1 c)))
+    (h 3 (byte 0 d) (omega arith) (byte-lt 0 d))
 
 pub round-by : (t : List ℕ) → RoundTable t → (s k : State) → block (roundBy t s k) ≡ roundOf (block s) (block k)
-round-by t h s k =
-    ap block (by-columns t s k)
-    ∙ added-words (columnBy t (s .c0) (s .c1) (s .c2) (s .c3)) (columnBy t (s .c1) (s .c2) (s .c3) (s .c0))
-    (columnBy t (s .c2) (s .c3) (s .c0) (s .c1)) (columnBy t (s .c3) (s .c0) (s .c1) (s .c2)) (k .c0) (k .c1) (k .c2) (k .c3)
-    (mixed-column t h (s .c0) (s .c1) (s .c2) (s .c3)) (mixed-column t h (s .c1) (s .c2) (s .c3) (s .c0))
-    (mixed-column t h (s .c2) (s .c3) (s .c0) (s .c1)) (mixed-column t h (s .c3) (s .c0) (s .c1) (s .c2))
+round-by t h = round-columns t (λ a b c d. mixColumn (sBox (byte 3 a)) (sBox (byte 2 b)) (sBox (byte 1 c)) (sBox (byte 0 d))) (column t products (h .mixed))
+
+-- ---- the last round
+
+four : {a b c d a′ b′ c′ d′ : ℕ} → a ≡ a′ → b ≡ b′ → c ≡ c′ → d ≡ d′ → _≡_ {A = List ℕ} (a ∷ b ∷ c ∷ d ∷ []) (a′ ∷ b′ ∷ c′ ∷ d′ ∷ [])
+four p q r s = cc
+
+-- bytes that stand alone, each in a row of its own
+apart : (p q r s : ℕ) → xors (xors (xors (alone 0 p) (alone 1 q)) (alone 2 r)) (alone 3 s) ≡ p ∷ q ∷ r ∷ s ∷ []
+apart p q r s =
+    let z : bitXor 0 0 ≡ 0 = xor-zero-l 0 in
+    four (xor-zero-r (bitXor (bitXor p 0) 0) ∙ xor-zero-r (bitXor p 0) ∙ xor-zero-r p)
+    (xor-zero-r (bitXor (bitXor 0 q) 0) ∙ xor-zero-r (bitXor 0 q) ∙ xor-zero-l q)
+    (xor-zero-r (bitXor (bitXor 0 0) r) ∙ ap (λ (x : ℕ). bitXor x r) z ∙ xor-zero-l r)
+    (ap (λ (x : ℕ). bitXor (bitXor x 0) s) z ∙ ap (λ (x : ℕ). bitXor x s) z ∙ xor-zero-l s)
+
+last-by : (t : List ℕ) → Rows alone t → (s k : State) → block (roundBy t s k) ≡ lastRoundOf (block s) (block k)
+last-by t h =
+    round-columns t (λ a b c d. sBox (byte 3 a) ∷ sBox (byte 2 b) ∷ sBox (byte 1 c) ∷ sBox (byte 0 d) ∷ [])
+    (λ a b c d. column t alone h a b c d ∙ apart (sBox (byte 3 a)) (sBox (byte 2 b)) (sBox (byte 1 c)) (sBox (byte 0 d)))
+
+-- by the table's second half
+pub last-half : (t : List ℕ) → RoundTable t → (s k r : State) → r ≡ roundBy (take (length t - 512) (drop 512 t)) s k → block r ≡ lastRoundOf (block s) (block k)
+last-half t h s k r e =
+    let half : take (length t - 512) (drop 512 t) ≡ drop 512 t = take-all (length t - 512) (drop 512 t) (omega (arith, length-drop 512 t)) in
+    ap block (e ∙ ap (λ (l : List ℕ). roundBy l s k) half) ∙ last-by (drop 512 t) (h .last) s k
+
+-- ---- AddRoundKey
 
 pub added-to : (s k : State) → block (addedTo s k) ≡ addRoundKey (block s) (block k)
 added-to s k = added-words (s .c0) (s .c1) (s .c2) (s .c3) (k .c0) (k .c1) (k .c2) (k .c3) refl refl refl refl

@@ -2,7 +2,7 @@
 use Prim.Native.Nat.{ℕ, zero, suc, _+_, _*_, _/_, _%_, _^_, _<_}
 use mathlib.Core.Path.{_≡_}
 use mathlib.Core.List.{List, [], _∷_}
-use lib.ListN.{length, getD}
+use lib.ListN.{length, drop, getD}
 use Rattle.octets.specs.BigEndian.{toBytes}
 use Rattle.aes.specs.Field.{mul}
 use Rattle.aes.specs.SBox.{sBox}
@@ -13,6 +13,13 @@ products zero s = mul 2 s ∷ s ∷ s ∷ mul 3 s ∷ []
 products (suc zero) s = mul 3 s ∷ mul 2 s ∷ s ∷ s ∷ []
 products (suc (suc zero)) s = s ∷ mul 3 s ∷ mul 2 s ∷ s ∷ []
 products (suc (suc (suc r))) s = s ∷ s ∷ mul 3 s ∷ mul 2 s ∷ []
+
+-- s alone in row r: the last round has no MixColumns
+abbrev pub alone : ℕ → ℕ → List ℕ
+alone zero s = s ∷ 0 ∷ 0 ∷ 0 ∷ []
+alone (suc zero) s = 0 ∷ s ∷ 0 ∷ 0 ∷ []
+alone (suc (suc zero)) s = 0 ∷ 0 ∷ s ∷ 0 ∷ []
+alone (suc (suc (suc r))) s = 0 ∷ 0 ∷ 0 ∷ s ∷ []
 
 -- the word that begins r bytes up
 abbrev pub word : ℕ → ℕ → ℕ
@@ -26,7 +33,12 @@ entry t x = getD t (2 * x + 1) 0 * 2 ^ 32 + getD t (2 * x) 0
 unfoldable pub cell : List ℕ → ℕ → ℕ → ℕ
 cell t r x = word r (entry t x)
 
--- the table: in each row of a byte's entry what its substitute adds
+-- a table has in each row of a byte's entry what f gives of the row and the substitute
+abbrev pub Rows : (ℕ → ℕ → List ℕ) → List ℕ → Type 0
+Rows f t = (r x : ℕ) → r < 4 → x < 256 → toBytes 4 (cell t r x) ≡ f r (sBox x)
+
+-- the table of a round, and behind it that of the last round
 pub record RoundTable (t : List ℕ) : Type 0 where
-  pub size : length t ≡ 512
-  pub rows : (r x : ℕ) → r < 4 → x < 256 → toBytes 4 (cell t r x) ≡ products r (sBox x)
+  pub size : length t ≡ 1024
+  pub mixed : Rows products t
+  pub last : Rows alone (drop 512 t)

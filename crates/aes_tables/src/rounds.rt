@@ -1,24 +1,31 @@
 // The cipher on one block, a column of a round by four entries of the table.
 ghost use mathlib.Core.Path.{_≡_};
-ghost use mathlib.Core.List.{[], _∷_};
-ghost use Prim.Native.Nat.{_+_, _*_, _^_, _≤_, _<_};
+ghost use mathlib.Core.List.{List};
+ghost use Prim.Native.Nat.{ℕ, _+_, _-_, _*_, _^_, _≤_, _<_};
 ghost use lib.ListN.{length};
-ghost use Rattle.octets.specs.BigEndian.{byte, toBytes};
-ghost use Rattle.aes.specs.Cipher.{cipher, lastRoundOf};
+ghost use Rattle.aes.specs.Cipher.{addRoundKey, roundKey, lastRoundOf, rounds, cipher};
 ghost use Rattle.aes.specs.Columns.{block};
-ghost use Rattle.aes.specs.SBox.{sBox};
 ghost use Rattle.aes_tables.specs.Table.{entry, RoundTable};
 ghost use Rattle.aes_tables.specs.Rounds.{rowBy, turnedBy, roundBy, keyState, addedTo};
 use aes::State;
 
 // The cipher with `nr` rounds, on whatever round key words `w` holds: what aes::encrypt_block answers.
-pub fn encrypt_block(t: &[u32; 512], w: &[u32], nr: usize, s: State) -> State
+pub fn encrypt_block(t: &[u32], w: &[u32], nr: usize, s: State) -> State
     requires { ⌜ RoundTable (now t) ⌝ }
     requires { ⌜ (0 < nr) × (4 * nr + 4 ≤ length (now w)) ⌝ }
     ensures { λ r. ⌜ block r ≡ cipher (now (w .entry)) nr (block s) ⌝ }
 {
-    let mut x = added(s, key_at(w, 0));
-    let mut i = 1;
+    finish(t, w, nr, 1, added(s, key_at(w, 0)))
+}
+
+// The rest of the cipher with `nr` rounds, from round `from` on, on the state `a` that stands before it.
+pub(crate) fn finish(t: &[u32], w: &[u32], nr: usize, from: usize, a: State) -> State
+    requires { ⌜ RoundTable (now t) ⌝ }
+    requires { ⌜ (0 < from) × (from ≤ nr) × (4 * nr + 4 ≤ length (now w)) ⌝ }
+    ensures { λ r. ⌜ ((s : List ℕ) → block a ≡ rounds (now (w .entry)) (from - 1) (addRoundKey s (roundKey (now (w .entry)) 0)) → block r ≡ cipher (now (w .entry)) nr s) ⌝ }
+{
+    let mut x = a;
+    let mut i = from;
     while i < nr {
         x = round(t, x, key_at(w, i));
         i += 1;
@@ -53,8 +60,8 @@ pub(crate) fn added(s: State, k: State) -> State
 
 // A round by its table. It goes through the columns one by one: each is read once, and the compiler then keeps two states
 // at a time in registers.
-pub(crate) fn round(t: &[u32; 512], s: State, k: State) -> State
-    requires { ⌜ length (now t) ≡ 512 ⌝ }
+pub(crate) fn round(t: &[u32], s: State, k: State) -> State
+    requires { ⌜ 512 ≤ length (now t) ⌝ }
     ensures { λ r. ⌜ r ≡ roundBy (now (t .entry)) s k ⌝ }
 {
     let x = turned(t, k, s.c0);
@@ -65,8 +72,8 @@ pub(crate) fn round(t: &[u32; 512], s: State, k: State) -> State
 
 // `x` with what the column `a` adds to it: ShiftRows takes row r of `a` to the r-th column before its own, which comes first here. What comes
 // back is turned by one column, so the next column's own comes first again.
-fn turned(t: &[u32; 512], x: State, a: u32) -> State
-    requires { ⌜ length (now t) ≡ 512 ⌝ }
+fn turned(t: &[u32], x: State, a: u32) -> State
+    requires { ⌜ 512 ≤ length (now t) ⌝ }
     ensures { λ r. ⌜ r ≡ turnedBy (now (t .entry)) x a ⌝ }
 {
     State {
@@ -78,8 +85,8 @@ fn turned(t: &[u32; 512], x: State, a: u32) -> State
 }
 
 // What the byte in row r of the column `a` adds to the column where it goes.
-pub(crate) fn row(t: &[u32; 512], r: u32, a: u32) -> u32
-    requires { ⌜ (length (now t) ≡ 512) × (r < 4) ⌝ }
+pub(crate) fn row(t: &[u32], r: u32, a: u32) -> u32
+    requires { ⌜ (512 ≤ length (now t)) × (r < 4) ⌝ }
     ensures { λ v. ⌜ v ≡ rowBy (now (t .entry)) r a ⌝ }
 {
     let b = (a >> (24 - 8 * r)) % 256;
@@ -87,8 +94,8 @@ pub(crate) fn row(t: &[u32; 512], r: u32, a: u32) -> u32
 }
 
 // An entry as one number, of which the compiler reads a row as one word.
-fn entry(t: &[u32; 512], x: usize) -> u64
-    requires { ⌜ (length (now t) ≡ 512) × (x < 256) ⌝ }
+fn entry(t: &[u32], x: usize) -> u64
+    requires { ⌜ (512 ≤ length (now t)) × (x < 256) ⌝ }
     ensures { λ r. ⌜ r ≡ entry (now (t .entry)) x ⌝ }
 {
     joined(t[2 * x], t[2 * x + 1])
@@ -101,37 +108,10 @@ fn joined(low: u32, high: u32) -> u64
     (high as u64) * 0x1_0000_0000 + (low as u64)
 }
 
-// The last round has no MixColumns.
-pub(crate) fn last_round(t: &[u32; 512], s: State, k: State) -> State
+// The last round has no MixColumns: what a byte adds to it stands in the table's second half.
+pub(crate) fn last_round(t: &[u32], s: State, k: State) -> State
     requires { ⌜ RoundTable (now t) ⌝ }
     ensures { λ r. ⌜ block r ≡ lastRoundOf (block s) (block k) ⌝ }
 {
-    State {
-        c0: shifted(t, s.c0, s.c1, s.c2, s.c3) ^ k.c0,
-        c1: shifted(t, s.c1, s.c2, s.c3, s.c0) ^ k.c1,
-        c2: shifted(t, s.c2, s.c3, s.c0, s.c1) ^ k.c2,
-        c3: shifted(t, s.c3, s.c0, s.c1, s.c2) ^ k.c3,
-    }
-}
-
-// A column of SubBytes and ShiftRows.
-fn shifted(t: &[u32; 512], a: u32, b: u32, c: u32, d: u32) -> u32
-    requires { ⌜ RoundTable (now t) ⌝ }
-    ensures { λ r. ⌜ toBytes 4 r ≡ sBox (byte 3 a) ∷ sBox (byte 2 b) ∷ sBox (byte 1 c) ∷ sBox (byte 0 d) ∷ [] ⌝ }
-{
-    aes::word(
-        substituted(t, (a >> 24) % 256),
-        substituted(t, (b >> 16) % 256),
-        substituted(t, (c >> 8) % 256),
-        substituted(t, d % 256),
-    )
-}
-
-// The substitute itself is the second byte of an entry, counted from the lowest.
-fn substituted(t: &[u32; 512], b: u32) -> u8
-    requires { ⌜ RoundTable (now t) ⌝ }
-    requires { ⌜ b < 256 ⌝ }
-    ensures { λ r. ⌜ r ≡ sBox b ⌝ }
-{
-    ((entry(t, b as usize) >> 8) % 256) as u8
+    round(&t[512..], s, k)
 }

@@ -10,6 +10,7 @@ ghost use Rattle.aes_tables.specs.Series.{ending, spreadBy, frontBy, aft
 use crate::Front;
 use crate::Pair;
 use crate::rounds::added;
+use crate::rounds::finish;
 use crate::rounds::key_at;
 use crate::rounds::last_round;
 use crate::rounds::round;
@@ -17,7 +18,7 @@ use crate::rounds::row;
 use aes::State;
 
 // The front of `s` and of the blocks that differ from it in their last byte alone.
-pub fn front_of(t: &[u32; 512], w: &[u32], s: State) -> Front
+pub fn front_of(t: &[u32], w: &[u32], s: State) -> Front
     requires { ⌜ RoundTable (now t) ⌝ }
     requires { ⌜ 12 ≤ length (now w) ⌝ }
     ensures { λ r. ⌜ FrontOf (now (t .entry)) (now (w .entry)) s r ⌝ }
@@ -26,8 +27,8 @@ pub fn front_of(t: &[u32; 512], w: &[u32], s: State) -> Front
 }
 
 // The same of the state `x` that stands before round 1, with the keys of rounds 1 and 2.
-fn front_behind(t: &[u32; 512], x: State, k: State, m: State) -> Front
-    requires { ⌜ length (now t) ≡ 512 ⌝ }
+fn front_behind(t: &[u32], x: State, k: State, m: State) -> Front
+    requires { ⌜ 512 ≤ length (now t) ⌝ }
     ensures { λ r. ⌜ r ≡ frontBy (now (t .entry)) x k m ⌝ }
 {
     let y = round(t, x, k);
@@ -39,8 +40,8 @@ fn front_behind(t: &[u32; 512], x: State, k: State, m: State) -> Front
 }
 
 // What the first column `y` of a state adds to the columns of a round.
-fn spread(t: &[u32; 512], y: u32) -> State
-    requires { ⌜ length (now t) ≡ 512 ⌝ }
+fn spread(t: &[u32], y: u32) -> State
+    requires { ⌜ 512 ≤ length (now t) ⌝ }
     ensures { λ r. ⌜ r ≡ spreadBy (now (t .entry)) y ⌝ }
 {
     State {
@@ -52,16 +53,28 @@ fn spread(t: &[u32; 512], y: u32) -> State
 }
 
 // The state behind round 2 of the block whose last word, with round key 0 added, is `x`.
-fn behind_two(t: &[u32; 512], f: Front, x: u32) -> State
-    requires { ⌜ length (now t) ≡ 512 ⌝ }
+fn behind_two(t: &[u32], f: Front, x: u32) -> State
+    requires { ⌜ 512 ≤ length (now t) ⌝ }
     ensures { λ r. ⌜ r ≡ afterTwo (now (t .entry)) f x ⌝ }
 {
     let rest = f.rest;
     added(rest, spread(t, f.first ^ row(t, 3, x)))
 }
 
-// The cipher with `nr` rounds on two blocks, `s` with `j` and with j + 1 as its last byte. `f` is their front.
-pub fn encrypt_pair(t: &[u32; 512], w: &[u32], nr: usize, f: Front, s: State, j: u32) -> Pair
+// The cipher with `nr` rounds on a block, `s` with `j` as its last byte. `f` is its front.
+pub fn encrypt_one(t: &[u32], w: &[u32], nr: usize, f: Front, s: State, j: u32) -> State
+    requires { ⌜ RoundTable (now t) ⌝ }
+    requires { ⌜ FrontOf (now t) (now w) s f ⌝ }
+    requires { ⌜ (2 < nr) × (4 * nr + 4 ≤ length (now w)) × (s .c3 % 2 ^ 8 ≡ 0) × (j < 256) ⌝ }
+    ensures { λ r. ⌜ block r ≡ cipher (now (w .entry)) nr (block (ending s (s .c3 + j))) ⌝ }
+{
+    let k = w[3];
+    let v = s.c3 + j;
+    finish(t, w, nr, 3, behind_two(t, f, v ^ k))
+}
+
+// The same of two blocks, with `j` and with j + 1 as their last bytes.
+pub fn encrypt_pair(t: &[u32], w: &[u32], nr: usize, f: Front, s: State, j: u32) -> Pair
     requires { ⌜ RoundTable (now t) ⌝ }
     requires { ⌜ FrontOf (now t) (now w) s f ⌝ }
     requires { ⌜ (2 < nr) × (4 * nr + 4 ≤ length (now w)) × (s .c3 % 2 ^ 8 ≡ 0) × (j < 255) ⌝ }
@@ -81,7 +94,7 @@ pub fn encrypt_pair(t: &[u32; 512], w: &[u32], nr: usize, f: Front, s: State, j:
 }
 
 // The rest of the cipher, on the states of two blocks behind round 2.
-fn encrypt_behind_two(t: &[u32; 512], w: &[u32], nr: usize, a: State, b: State) -> Pair
+fn encrypt_behind_two(t: &[u32], w: &[u32], nr: usize, a: State, b: State) -> Pair
     requires { ⌜ RoundTable (now t) ⌝ }
     requires { ⌜ (2 < nr) × (4 * nr + 4 ≤ length (now w)) ⌝ }
     ensures one { λ r. ⌜ ((s : List ℕ) → block a ≡ rounds (now (w .entry)) 2 (addRoundKey s (roundKey (now (w .entry)) 0)) → block (r .one) ≡ cipher (now (w .entry)) nr s) ⌝ }

@@ -3,10 +3,11 @@ use mathlib.Core.List.{List, _++_}
 use mathlib.Core.Path.{_≡_, refl, sym, ap, ap₂, _∙_}
 use Prim.Native.Nat.{ℕ, zero, suc, _+_, _*_, _/_, _%_, _^_}
 use native.Mathlib.Nat.{zero-add}
-use lib.ListN.{length, take, drop}
+use lib.ListN.{length, take, drop, replicate, length-replicate}
 use Rattle.aes.proofs.AesLaws.{cipher-is-aes}
 use Rattle.aes.specs.KeyExpansion.{keyExpansion}
 use Rattle.octets.specs.BigEndian.{Bytes, toBytes, fromBytes}
+use Rattle.octets.specs.Xor.{xors}
 use Rattle.sha1.proofs.HmacLaws.{hmacWith-key}
 use Rattle.sha1.specs.Hmac.{hmac, hmacKey}
 use Rattle.sha1.specs.declared.HmacKey.{HmacKey}
@@ -14,10 +15,13 @@ use Rattle.transforms.specs.Ciphers.{stream}
 use Rattle.transforms.specs.CounterMode.{initialCounter, keystreamBlock, keystreamBlocks, keystream}
 use Rattle.transforms.specs.KeyDerivation.{derivationInput, derived, sessionKeys}
 use Rattle.transforms.specs.Rfc3711.{counterModeBlocks, counterMode, prf, Derived}
+use Rattle.transforms.specs.Steps.{segment}
 use Rattle.transforms.specs.Tag.{authenticationTag}
 use Rattle.transforms.specs.declared.SessionKeys.{SessionKeys}
 use Rattle.transforms.proofs.CounterLaws.{words, counted, derivation-counter}
 use Rattle.transforms.proofs.KeystreamLaws.{length-keystream, bytes-keystream}
+use Rattle.transforms.proofs.SegmentLaws.{length-segment}
+use Rattle.transforms.proofs.XoredLaws.{zeros-xors}
 
 -- ---- length, elements, beginnings
 
@@ -30,12 +34,15 @@ module _ (key salt : List ℕ) (label : ℕ) where
   unfolding derived
   bytes-derived = bytes-keystream (keyExpansion 4 key) (derivationInput salt label * 2 ^ 16)
 
-  -- as the code has it: out is the keystream under the master key from the initial counter with the label for the SSRC and 0 for the index
-  pub derived-over : (w out : List ℕ) (a b c d n : ℕ) → words a b c d ≡ toBytes 16 (initialCounter (fromBytes salt) label 0)
-      → out ≡ drop 0 (keystream w (fromBytes (words a b c d)) (0 + n)) → w ≡ keyExpansion 4 key → out ≡ derived key salt label n
+  -- as the code has it: the keystream under the master key, from the initial counter with the label for the SSRC and 0 for the index, XORed into zeros
+  pub derived-in : (w zeros out : List ℕ) (a b c d n : ℕ) → words a b c d ≡ toBytes 16 (initialCounter (fromBytes salt) label 0)
+      → zeros ≡ replicate n 0 → out ≡ xors zeros (segment w (fromBytes (words a b c d)) 0 (length zeros)) → w ≡ keyExpansion 4 key → out ≡ derived key salt label n
   unfolding derived
-  derived-over w out a b c d n i p e =
-      p ∙ ap (keystream w (fromBytes (words a b c d))) (zero-add n)
+  derived-in w zeros out a b c d n i z p e =
+      let s : List ℕ = segment w (fromBytes (words a b c d)) 0 n in
+      p ∙ ap₂ (λ (x : List ℕ) (m : ℕ). xors x (segment w (fromBytes (words a b c d)) 0 m)) z (ap length z ∙ length-replicate n 0)
+      ∙ zeros-xors s n (sym (length-segment w (fromBytes (words a b c d)) 0 n))
+      ∙ ap (keystream w (fromBytes (words a b c d))) (zero-add n)
       ∙ counted w a b c d (initialCounter (fromBytes salt) label 0) n i
       ∙ ap₂ (λ (l : List ℕ) (v : ℕ). keystream l v n) e (sym (derivation-counter salt label))
 

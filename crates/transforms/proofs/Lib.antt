@@ -2,7 +2,8 @@ mod PartLaws
 mod BlockBytes
 pub mod KeystreamLaws
 mod CounterLaws
-mod FillLaws
+mod XoredLaws
+mod SegmentLaws
 pub mod StreamLaws
 pub mod CipherLaws
 mod EncipherLaws

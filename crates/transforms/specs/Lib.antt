@@ -1,4 +1,5 @@
 pub mod CounterMode
+pub mod Steps
 pub mod KeyDerivation
 pub mod Ciphers
 pub mod Tag

@@ -8,9 +8,8 @@ ghost use Rattle.transforms.specs.Ciphers.{cipheredFrom};
 ghost use Rattle.transforms.specs.declared.Cipher.the-variants.{Aes};
 use crate::Cipher;
 use crate::SessionKeys;
-use crate::buffers::xor_in;
 use crate::counter_mode::initial_counter;
-use crate::counter_mode::keystream_over;
+use crate::counter_mode::keystream_in;
 
 // Writes `text`, which starts at byte `start` of the packet's stream, under the cipher over the start of `out`. Deciphering is the same.
 // Neither cipher looks at the packet's clear part.
@@ -41,6 +40,6 @@ fn counter_mode(keys: SessionKeys, ssrc: u32, index: u64, start: usize, text: &[
     let salt = keys.salt;
     let first = initial_counter(salt, ssrc, index);
     let n = text.len();
-    keystream_over(&w, first, start, &mut out[..n]);
-    xor_in(text, out);
+    octets::copy_over(text, out);
+    keystream_in(&w, first, start, &mut out[..n]);
 }

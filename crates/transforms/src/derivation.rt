@@ -7,8 +7,9 @@ ghost use Rattle.aes.specs.SBox.{SBoxTable};
 ghost use Rattle.aes.specs.KeyExpansion.{keyExpansion};
 ghost use Rattle.transforms.specs.KeyDerivation.{derived, sessionKeys};
 use crate::SessionKeys;
+use crate::buffers::clear;
 use crate::counter_mode::initial_counter;
-use crate::counter_mode::keystream_over;
+use crate::counter_mode::keystream_in;
 
 impl SessionKeys {
     // The labels of the cipher key, of media packets (4.3.1) and of control packets (4.3.2).
@@ -53,5 +54,6 @@ pub fn derived(w: &[u32], salt: [u8; 14], label: u8, out: &mut [u8])
     ensures { λ _. ⌜ ((key : List ℕ) → now (w .entry) ≡ keyExpansion 4 key → now (out .exit) ≡ derived key salt label (length (now (out .entry)))) ⌝ }
 {
     let first = initial_counter(salt, label as u32, 0);
-    keystream_over(w, first, 0, out);
+    clear(out);
+    keystream_in(w, first, 0, out);
 }

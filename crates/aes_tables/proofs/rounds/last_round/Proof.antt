@@ -1,26 +1,25 @@
-use Rattle.aes.proofs.StateLaws.{added-words}
+use Rattle.aes_tables.proofs.RoundLaws.{last-half}
 use borrow.Author.Needs.{needs}
 use Rattle.aes_tables.proofs.rounds.last_round.Statement.{statement}
 use Rattle.aes_tables.proofs.rounds.last_round.Tie as tie
 
-shifted-requires : tie.Need-shifted-requires
-shifted-requires c κs = search needs
+sub-round : tie.Need-sub-round
+sub-round c = search needs
 
-shifted-requires-2 : tie.Need-shifted-requires-2
-shifted-requires-2 c κs = search needs
+part-round-start : tie.Need-part-round-start
+part-round-start c = search needs
 
-shifted-requires-3 : tie.Need-shifted-requires-3
-shifted-requires-3 c κs = search needs
+part-round-end : tie.Need-part-round-end
+part-round-end c = search needs
 
-shifted-requires-4 : tie.Need-shifted-requires-4
-shifted-requires-4 c κs = search needs
+round-requires : tie.Need-round-requires
+round-requires c κs = search needs
 
 returns : tie.Need-returns
-returns c = let k = c .before .before .before .before .before .before .before .before .args .k in
-    added-words (c .before .before .before .before .before .before .before .shifted .result) (c .before .before .before .before .before .shifted2 .result) (c .before .before .before .shifted3 .result) (c .before .shifted4 .result) (k .c0) (k .c1) (k .c2) (k .c3)
-    (c .before .before .before .before .before .before .before .shifted .ensures) (c .before .before .before .before .before .shifted2 .ensures) (c .before .before .before .shifted3 .ensures) (c .before .shifted4 .ensures)
+returns c =
+    let e = c .before .before .before in
+    last-half (e .args .t .now) (e .pre) (e .args .s) (e .args .k) (c .round .result) (c .round .ensures)
 
 pub last-round-spec : {M : Type 1} → statement M
 last-round-spec =
-    tie.close
-    (tie.spec shifted-requires shifted-requires-2 shifted-requires-3 shifted-requires-4 returns)
+    tie.close (tie.spec sub-round part-round-start part-round-end round-requires returns)

@@ -19,7 +19,7 @@ turned-requires-4 c κs = search needs
 
 returns : tie.Need-returns
 returns c =
-    let a = c .before .before .before .before .args in
+    let a = c .before .before .before .before .before .args in
     let t = a .t .now in
     let s = a .s in
     c .turned4 .ensures

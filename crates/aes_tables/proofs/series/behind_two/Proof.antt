@@ -18,7 +18,7 @@ added-requires c κs = search needs
 
 returns : tie.Need-returns
 returns c =
-    let a = c .before .before .before .before .before .args in
+    let a = c .before .before .before .before .before .before .args in
     let t = a .t .now in
     let f = a .f in
     c .added .ensures

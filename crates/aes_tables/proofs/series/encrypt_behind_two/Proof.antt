@@ -38,7 +38,7 @@ loop-less c = search needs
 
 loop-again : tie.Need-loop-again Inv-loop μ-loop
 loop-again c =
-    let e = c .before .before .before .before .before .before in
+    let e = c .before .before .before .before .before .before .before in
     let l = c .before .before .before .before .loop in
     let k = c .before .before .key-at in (
       search needs,
@@ -60,7 +60,7 @@ last-round-requires-2 c κs = search needs
 
 returns : tie.Need-returns Inv-loop μ-loop
 returns c =
-    let a = c .before .before .before .before .before .before .args in
+    let a = c .before .before .before .before .before .before .before .args in
     let w = a .w .now in
     let l = c .before .before .before .before .loop in
     let k = c .before .before .key-at2 in (

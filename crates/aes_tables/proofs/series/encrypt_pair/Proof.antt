@@ -30,7 +30,7 @@ encrypt-behind-two-requires c κs = search needs
 
 returns : tie.Need-returns
 returns c =
-    let e = c .before .before .before .before .before .before .before in
+    let e = c .before .before .before .before .before .before .before .before in
     let s = e .args .s in
     let v : ℕ = s .c3 + e .args .j in
     let u : ℕ = s .c3 + (e .args .j + 1) in (

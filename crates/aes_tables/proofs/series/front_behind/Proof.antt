@@ -20,7 +20,7 @@ added-requires c κs = search needs
 
 returns : tie.Need-returns
 returns c =
-    let a = c .before .before .before .before .before .before .args in
+    let a = c .before .before .before .before .before .before .before .args in
     front-terms (a .t .now) (a .x) (a .k) (a .m) (c .before .before .before .before .before .round .result) (c .before .before .before .before .round2 .result)
     (c .before .spread .result) (c .added .result) (c .before .before .before .row .result) (c .before .before .before .before .before .round .ensures)
     (c .before .before .before .before .round2 .ensures) (c .before .before .before .row .ensures) (c .before .spread .ensures) (c .added .ensures)

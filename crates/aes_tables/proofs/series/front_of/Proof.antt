@@ -20,7 +20,7 @@ front-behind-requires c κs = search needs
 
 returns : tie.Need-returns
 returns c =
-    let e = c .before .before .before .before .before .before in
+    let e = c .before .before .before .before .before .before .before in
     let t = e .args .t .now in
     let w = e .args .w .now in
     let s = e .args .s in

@@ -11,12 +11,12 @@ use Rattle.octets.proofs.BufferLaws.{none-over, next-over, all-over}
 use Rattle.octets.proofs.XorLaws.{length-xors, getD-xors}
 use Rattle.octets.specs.Buffer.{over}
 use Rattle.octets.specs.Xor.{xors}
-use Rattle.transforms.proofs.FillLaws.{rest-over}
+use Rattle.transforms.proofs.XoredLaws.{rest-over}
 use Rattle.transforms.proofs.buffers.xor_in.Statement.{statement}
 use Rattle.transforms.proofs.buffers.xor_in.Tie as tie
 
 abbrev Inv-loop : tie.InvT-loop
-Inv-loop s d₀ n i₀ d i = (i ≤ n) × (length d ≡ length d₀) × (d ≡ over (take i (xors s d₀)) d₀)
+Inv-loop s d₀ n i₀ d i = (i ≤ n) × (length d ≡ length d₀) × (d ≡ over (take i (xors d₀ s)) d₀)
 
 abbrev μ-loop : tie.MeasureT-loop
 μ-loop s d₀ n i₀ d i = n - i
@@ -24,13 +24,13 @@ abbrev μ-loop : tie.MeasureT-loop
 loop-holds : tie.Need-loop-holds Inv-loop μ-loop
 loop-holds c =
     let a = c .args in
-    (search needs, search needs, none-over (xors (a .s .now) (a .d .now)) (a .d .now) (omega (arith, length-xors (a .s .now) (a .d .now))))
-
-shared-slice-read-d : tie.Need-shared-slice-read-d Inv-loop μ-loop
-shared-slice-read-d c = search needs
+    (search needs, search needs, none-over (xors (a .d .now) (a .s .now)) (a .d .now) (omega (arith, length-xors (a .d .now) (a .s .now))))
 
 slice-read-d : tie.Need-slice-read-d Inv-loop μ-loop
 slice-read-d c = search needs
+
+shared-slice-read-d : tie.Need-shared-slice-read-d Inv-loop μ-loop
+shared-slice-read-d c = search needs
 
 slice-write-d : tie.Need-slice-write-d Inv-loop μ-loop
 slice-write-d c = search needs
@@ -46,15 +46,15 @@ loop-again c =
     let l = c .before .before .before .loop in
     let s = c .before .before .before .before .args .s .now in
     let d = c .before .before .before .before .args .d .now in
-    let n : length (xors s d) ≡ length s = omega (arith, length-xors s d) in
-    let k : l .i ≡ length (take (l .i) (xors s d)) = sym (length-take-le (l .i) (xors s d) (omega arith)) in
-    let old : getD (l .d) (l .i) 0 ≡ getD d (l .i) 0 = ap (λ (x : List ℕ). getD x (l .i) 0) (l .inv .2) ∙ rest-over (take (l .i) (xors s d)) d (l .i) k in
-    let v : bitXor (getD s (l .i) 0) (getD (l .d) (l .i) 0) ≡ getD (xors s d) (l .i) 0 =
-    ap (bitXor (getD s (l .i) 0)) old ∙ sym (getD-xors s d (l .i) (omega arith) (omega arith)) in (
+    let n : length (xors d s) ≡ length s = omega (arith, length-xors d s) in
+    let k : l .i ≡ length (take (l .i) (xors d s)) = sym (length-take-le (l .i) (xors d s) (omega arith)) in
+    let old : getD (l .d) (l .i) 0 ≡ getD d (l .i) 0 = ap (λ (x : List ℕ). getD x (l .i) 0) (l .inv .2) ∙ rest-over (take (l .i) (xors d s)) d (l .i) k in
+    let v : bitXor (getD (l .d) (l .i) 0) (getD s (l .i) 0) ≡ getD (xors d s) (l .i) 0 =
+    ap (λ (x : ℕ). bitXor x (getD s (l .i) 0)) old ∙ sym (getD-xors d s (l .i) (omega arith) (omega arith)) in (
       search needs,
       simp length-set (search needs),
-      ap (λ (x : List ℕ). set x (l .i) (bitXor (getD s (l .i) 0) (getD (l .d) (l .i) 0))) (l .inv .2)
-          ∙ next-over (xors s d) d (omega arith) (l .i) (bitXor (getD s (l .i) 0) (getD (l .d) (l .i) 0)) (omega arith) v,
+      ap (λ (x : List ℕ). set x (l .i) (bitXor (getD (l .d) (l .i) 0) (getD s (l .i) 0))) (l .inv .2)
+          ∙ next-over (xors d s) d (omega arith) (l .i) (bitXor (getD (l .d) (l .i) 0) (getD s (l .i) 0)) (omega arith) v,
     )
 
 same-length : tie.Need-same-length Inv-loop μ-loop
@@ -63,8 +63,8 @@ same-length c = search needs
 returns : tie.Need-returns Inv-loop μ-loop
 returns c =
     let a = c .before .before .args in
-    let n : length (xors (a .s .now) (a .d .now)) ≡ length (a .s .now) = omega (arith, length-xors (a .s .now) (a .d .now)) in
-    c .before .loop .inv .2 ∙ all-over (xors (a .s .now) (a .d .now)) (a .d .now) (omega arith) (c .before .loop .i) (omega arith)
+    let n : length (xors (a .d .now) (a .s .now)) ≡ length (a .s .now) = omega (arith, length-xors (a .d .now) (a .s .now)) in
+    c .before .loop .inv .2 ∙ all-over (xors (a .d .now) (a .s .now)) (a .d .now) (omega arith) (c .before .loop .i) (omega arith)
 
 pub xor-in-spec : {M : Type 1} → statement M
 xor-in-spec =
@@ -73,8 +73,8 @@ xor-in-spec =
     Inv-loop
     μ-loop
     loop-holds
-    shared-slice-read-d
     slice-read-d
+    shared-slice-read-d
     slice-write-d
     add-i
     loop-less

@@ -1,10 +1,10 @@
 use native.Mathlib.Omega.{arith}
 use Rattle.aes.specs.Columns.{block}
 use Rattle.octets.specs.BigEndian.{fromBytes}
-use Rattle.transforms.proofs.FillLaws.{series-part}
+use Rattle.transforms.proofs.SegmentLaws.{series-part}
 use borrow.Author.Needs.{needs}
-use Rattle.transforms.proofs.counter_mode.series_over.Statement.{statement}
-use Rattle.transforms.proofs.counter_mode.series_over.Tie as tie
+use Rattle.transforms.proofs.counter_mode.series_in.Statement.{statement}
+use Rattle.transforms.proofs.counter_mode.series_in.Tie as tie
 
 add-p : tie.Need-add-p
 add-p c = search needs
@@ -47,7 +47,7 @@ same-length c = search needs
 
 returns : tie.Need-returns
 returns c =
-    let x = c .before .before .before .before .before .before .before .before .args in
+    let x = c .before .before .before .before .before .before .before .before .before .args in
     let n = c .before .before .before .before .smaller in
     let k = c .before .before .before .before .before .block-counter in (
       search needs,
@@ -55,8 +55,8 @@ returns c =
           (n .result) (omega arith) (k .ensures .0) (n .ensures) (c .before .before .series-from .ensures),
     )
 
-pub series-over-spec : {M : Type 1} → statement M
-series-over-spec =
+pub series-in-spec : {M : Type 1} → statement M
+series-in-spec =
     tie.close
     (tie.spec
     add-p

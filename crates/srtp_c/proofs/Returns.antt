@@ -53,6 +53,14 @@ module _ (x y z : Bool) (e : x ≡ y) where
   pub and-yes : not x ≡ false → (w : Bool) → w ≡ z → w ≡ (y && z)
   and-yes h w f = rw (← e, not-false x h) f
 
+-- the test of a struct's numbers
+module _ (x y : Bool) (e : x ≡ y) where
+  pub unnamed : not x ≡ true → y ≡ false
+  unnamed h = rw (← e) (not-true x h)
+
+  pub all-named : not x ≡ false → y ≡ true
+  all-named h = rw (← e) (not-false x h)
+
 -- ---- profiles and sessions
 pub profile-of : (p : Profile) (x : Cipher) (i : Integrity) → x ≡ cipherOf (p .cipher) → i ≡ integrityOf (p .integrity) (p .rate)
     → record { cipher = x; integrity = i; «tag_len» = p .«tag_len» } ≡ profileOf p
@@ -85,15 +93,11 @@ pub plain-session : (s : core-session.Session) (p : Profile) → p ≡ plainProf
 plain-session s p e = rw e
 
 -- ---- senders
-module _ (c : Sender) (b : Bool) (e : b ≡ senderNamed c) where
-  pub sender-closed : not b ≡ true → (s : core-sender.Sender) → s ≡ closedSender → s ≡ senderOf c
-  unfolding senderOf
-  sender-closed h s f = rw (← e, not-true b h) f
-
-  pub sender-of : not b ≡ false → (s : core-session.Session) (l : LastSent) → s ≡ sessionOf (c .session) → l ≡ lastOf (c .«has_last») (c .«last_index»)
-      → record { session = s; media = record { last = l }; control = record { sent = c .«control_sent» } } ≡ senderOf c
-  unfolding senderOf
-  sender-of h s l f g = rw (← e, not-false b h, f, g)
+pub sender-of : (c : Sender) → senderNamed c ≡ true → (s : core-session.Session) (l : LastSent)
+    → s ≡ sessionOf (c .session) → l ≡ lastOf (c .«has_last») (c .«last_index»)
+    → record { session = s; media = record { last = l }; control = record { sent = c .«control_sent» } } ≡ senderOf c
+unfolding senderOf
+sender-of c e s l f g = rw (e, f, g)
 
 pub plain-sender : (c : core-sender.Sender) (s : Session) (h i : ℕ)
     → s ≡ plainSession (c .session) → h ≡ hasLast (c .media .last) → i ≡ lastIndex (c .media .last)
@@ -109,16 +113,11 @@ pub plain-window : (w : core-window.Window) (h i : ℕ) → h ≡ hasHighest (w 
     → record { «has_highest» = h; highest = i; words = w .words } ≡ plainWindow w
 plain-window w h i e f = rw (e, f)
 
-module _ (c : Receiver) (b : Bool) (e : b ≡ receiverNamed c) where
-  pub receiver-closed : not b ≡ true → (s : core-receiver.Receiver) → s ≡ closedReceiver → s ≡ receiverOf c
-  unfolding receiverOf
-  receiver-closed h s f = rw (← e, not-true b h) f
-
-  pub receiver-of : not b ≡ false → (s : core-session.Session) (m k : core-window.Window)
-      → s ≡ sessionOf (c .session) → m ≡ windowOf (c .media) → k ≡ windowOf (c .control)
-      → record { session = s; rollover = c .rollover; media = m; control = k } ≡ receiverOf c
-  unfolding receiverOf
-  receiver-of h s m k f g i = rw (← e, not-false b h, f, g, i)
+pub receiver-of : (c : Receiver) → receiverNamed c ≡ true → (s : core-session.Session) (m k : core-window.Window)
+    → s ≡ sessionOf (c .session) → m ≡ windowOf (c .media) → k ≡ windowOf (c .control)
+    → record { session = s; rollover = c .rollover; media = m; control = k } ≡ receiverOf c
+unfolding receiverOf
+receiver-of c e s m k f g i = rw (e, f, g, i)
 
 pub plain-receiver : (c : core-receiver.Receiver) (s : Session) (m k : Window)
     → s ≡ plainSession (c .session) → m ≡ plainWindow (c .media) → k ≡ plainWindow (c .control)
@@ -138,6 +137,11 @@ module _ {S P : Type 0} (plain : S → P) where
   pub turned-sent : (y : core-answer.Answer) (s : S) (c : P) (n i : ℕ) (p : P) → y ≡ Sent n i → p ≡ plain s
       → Turned plain y s c (record { number = 0; len = n; index = i }) p
   turned-sent y s c n i p e f = rw e (record { answers = refl; leaves = f })
+
+  -- a call that is refused before `srtp` is asked
+  pub shows-refused : (o : Outcome S) (x : Refusal) → o ≡ refused x → (a : Answer) → a ≡ plainAnswer (Refused x) → (c : P) (before : List ℕ)
+      → Shows plain o c before a c before
+  shows-refused o x e a f c before = rw e (record { answers = f; leaves = refl; writes = refl })
 
   next-turned : (o : Outcome S) (s : S) (c : P) → nextFor plain (answerOf o) (nextOf o s) c ≡ plainNext plain o c
   next-turned (refused n) s c = refl

@@ -1,4 +1,5 @@
-// The calls on plain contexts by value: each is the call of `srtp` on the context that the struct stands for.
+// The calls on plain contexts by value: each is the call of `srtp` on the context that the struct stands for. A struct with a number that
+// no enum has stands for the closed one: its calls are refused with no context made.
 ghost use mathlib.Core.Path.{_≡_};
 ghost use Rattle.srtp.specs.declared.Answer.the-variants.{Refused};
 ghost use Rattle.srtp_c.specs.Plain.{plainSender, plainReceiver};
@@ -51,6 +52,12 @@ impl Sender {
     pub fn send_media(self, packet: &[u8], out: &mut [u8]) -> SenderAfter
         ensures { λ r. ⌜ SendsMedia self (now (packet .entry)) (now (out .entry)) r (now (out .exit)) ⌝ }
     {
+        if !self.named() {
+            return SenderAfter {
+                answer: Answer::refused(srtp::Refusal::Setup),
+                next: self,
+            };
+        }
         let sender = self.to_core();
         let after = sender.send_media(packet, out);
         self.shown(after)
@@ -59,6 +66,12 @@ impl Sender {
     pub fn send_control(self, packet: &[u8], out: &mut [u8]) -> SenderAfter
         ensures { λ r. ⌜ SendsControl self (now (packet .entry)) (now (out .entry)) r (now (out .exit)) ⌝ }
     {
+        if !self.named() {
+            return SenderAfter {
+                answer: Answer::refused(srtp::Refusal::Setup),
+                next: self,
+            };
+        }
         let sender = self.to_core();
         let after = sender.send_control(packet, out);
         self.shown(after)
@@ -93,6 +106,12 @@ impl Receiver {
     pub fn receive_media(self, packet: &[u8], out: &mut [u8]) -> ReceiverAfter
         ensures { λ r. ⌜ ReceivesMedia self (now (packet .entry)) (now (out .entry)) r (now (out .exit)) ⌝ }
     {
+        if !self.named() {
+            return ReceiverAfter {
+                answer: Answer::refused(srtp::Refusal::Setup),
+                next: self,
+            };
+        }
         let receiver = self.to_core();
         let after = receiver.receive_media(packet, out);
         self.shown(after)
@@ -101,6 +120,12 @@ impl Receiver {
     pub fn receive_control(self, packet: &[u8], out: &mut [u8]) -> ReceiverAfter
         ensures { λ r. ⌜ ReceivesControl self (now (packet .entry)) (now (out .entry)) r (now (out .exit)) ⌝ }
     {
+        if !self.named() {
+            return ReceiverAfter {
+                answer: Answer::refused(srtp::Refusal::Setup),
+                next: self,
+            };
+        }
         let receiver = self.to_core();
         let after = receiver.receive_control(packet, out);
         self.shown(after)

@@ -1,11 +1,11 @@
 // Plain structs and the values of `srtp` that they stand for. Two cases of an enum are the numbers 0 and 1; a context with another
 // number stands for the closed one, on which every call is refused.
 ghost use mathlib.Core.Path.{_≡_};
-ghost use mathlib.Core.Bool.{_&&_};
+ghost use mathlib.Core.Bool.{true, _&&_};
 ghost use Rattle.srtp.specs.Refusals.{numberOf};
 ghost use Rattle.srtp_c.specs.Plain.{twoCased, cipherOf, cipherNumber, integrityOf, integrityNumber, integrityRate};
 ghost use Rattle.srtp_c.specs.Plain.{profileNamed, profileOf, plainProfile, sessionOf, plainSession};
-ghost use Rattle.srtp_c.specs.Plain.{lastOf, hasLast, lastIndex, senderOf, plainSender};
+ghost use Rattle.srtp_c.specs.Plain.{lastOf, hasLast, lastIndex, senderNamed, senderOf, plainSender};
 ghost use Rattle.srtp_c.specs.Plain.{highestOf, hasHighest, highestIndex, windowOf, plainWindow, receiverNamed, receiverOf, plainReceiver};
 use crate::Profile;
 use crate::Receiver;
@@ -250,14 +250,20 @@ impl Window {
 }
 
 impl Sender {
-    pub(crate) fn to_core(self) -> srtp::Sender
-        ensures { λ r. ⌜ r ≡ senderOf self ⌝ }
+    // Whether each number of an enum is one.
+    pub(crate) fn named(self) -> bool
+        ensures { λ r. ⌜ r ≡ senderNamed self ⌝ }
     {
         let session = self.session;
         let profile = session.profile;
-        if !profile.named_with(self.has_last) {
-            return srtp::Sender::closed();
-        }
+        profile.named_with(self.has_last)
+    }
+
+    pub(crate) fn to_core(self) -> srtp::Sender
+        requires { ⌜ senderNamed self ≡ true ⌝ }
+        ensures { λ r. ⌜ r ≡ senderOf self ⌝ }
+    {
+        let session = self.session;
         srtp::Sender {
             session: session.to_core(),
             media: replay::index::MediaSender {
@@ -286,7 +292,7 @@ impl Sender {
 
 impl Receiver {
     // Whether each number of an enum is one.
-    fn named(self) -> bool
+    pub(crate) fn named(self) -> bool
         ensures { λ r. ⌜ r ≡ receiverNamed self ⌝ }
     {
         let session = self.session;
@@ -298,11 +304,9 @@ impl Receiver {
     }
 
     pub(crate) fn to_core(self) -> srtp::Receiver
+        requires { ⌜ receiverNamed self ≡ true ⌝ }
         ensures { λ r. ⌜ r ≡ receiverOf self ⌝ }
     {
-        if !self.named() {
-            return srtp::Receiver::closed();
-        }
         let session = self.session;
         let media = self.media;
         let control = self.control;

@@ -3,13 +3,25 @@ use denote.Ref.{now}
 use Rattle.srtp.specs.declared.Receiver.{Receiver}
 use Rattle.srtp.specs.Calls.{receiveControl}
 use Rattle.srtp_c.specs.Plain.{plainReceiver}
-use Rattle.srtp_c.proofs.Returns.{shows-turned}
+use Rattle.srtp_c.proofs.PlainLaws.{unnamed-receive-control}
+use Rattle.srtp_c.proofs.Returns.{unnamed, all-named, shows-refused, shows-turned}
 use borrow.Author.Needs.{needs}
 use Rattle.srtp_c.proofs.Receiver.receive_control.Statement.{statement}
 use Rattle.srtp_c.proofs.Receiver.receive_control.Tie as tie
 
+named-requires : tie.Need-named-requires
+named-requires c κs = search needs
+
+refused-requires : tie.Need-refused-requires
+refused-requires c κs = search needs
+
+returns : tie.Need-returns
+returns c =
+    let closed = unnamed _ _ (c .before .before .named .ensures) (c .before .if1 .taken) in
+    shows-refused plainReceiver _ _ (unnamed-receive-control _ _ _ closed) _ (c .refused .ensures) _ _
+
 to-core-requires : tie.Need-to-core-requires
-to-core-requires c κs = search needs
+to-core-requires c κs = all-named _ _ (c .before .named .ensures) (c .if1 .left)
 
 receive-control-requires : tie.Need-receive-control-requires
 receive-control-requires c κs = search needs
@@ -20,9 +32,9 @@ shown-requires c κs = search needs
 same-length : tie.Need-same-length
 same-length c = search needs
 
-returns : tie.Need-returns
-returns c =
-    let a = c .before .before .before .before .before .before .before .before .args in
+returns-2 : tie.Need-returns-2
+returns-2 c =
+    let a = c .before .before .before .before .before .before .before .before .before .before .args in
     let h = c .before .before .before .receive-control .ensures in
     let stands = c .before .before .before .before .before .to-core .ensures in
     shows-turned plainReceiver
@@ -32,4 +44,12 @@ returns c =
 pub receive-control-spec : {M : Type 1} → statement M
 receive-control-spec =
     tie.close
-    (tie.spec to-core-requires receive-control-requires shown-requires same-length returns)
+    (tie.spec
+    named-requires
+    refused-requires
+    returns
+    to-core-requires
+    receive-control-requires
+    shown-requires
+    same-length
+    returns-2)

@@ -3,13 +3,25 @@ use denote.Ref.{now}
 use Rattle.srtp.specs.declared.Sender.{Sender}
 use Rattle.srtp.specs.Calls.{sendControl}
 use Rattle.srtp_c.specs.Plain.{plainSender}
-use Rattle.srtp_c.proofs.Returns.{shows-turned}
+use Rattle.srtp_c.proofs.PlainLaws.{unnamed-send-control}
+use Rattle.srtp_c.proofs.Returns.{unnamed, all-named, shows-refused, shows-turned}
 use borrow.Author.Needs.{needs}
 use Rattle.srtp_c.proofs.Sender.send_control.Statement.{statement}
 use Rattle.srtp_c.proofs.Sender.send_control.Tie as tie
 
+named-requires : tie.Need-named-requires
+named-requires c κs = search needs
+
+refused-requires : tie.Need-refused-requires
+refused-requires c κs = search needs
+
+returns : tie.Need-returns
+returns c =
+    let closed = unnamed _ _ (c .before .before .named .ensures) (c .before .if1 .taken) in
+    shows-refused plainSender _ _ (unnamed-send-control _ _ _ closed) _ (c .refused .ensures) _ _
+
 to-core-requires : tie.Need-to-core-requires
-to-core-requires c κs = search needs
+to-core-requires c κs = all-named _ _ (c .before .named .ensures) (c .if1 .left)
 
 send-control-requires : tie.Need-send-control-requires
 send-control-requires c κs = search needs
@@ -20,9 +32,9 @@ shown-requires c κs = search needs
 same-length : tie.Need-same-length
 same-length c = search needs
 
-returns : tie.Need-returns
-returns c =
-    let a = c .before .before .before .before .before .before .before .before .args in
+returns-2 : tie.Need-returns-2
+returns-2 c =
+    let a = c .before .before .before .before .before .before .before .before .before .before .args in
     let h = c .before .before .before .send-control .ensures in
     let stands = c .before .before .before .before .before .to-core .ensures in
     shows-turned plainSender
@@ -31,4 +43,13 @@ returns c =
 
 pub send-control-spec : {M : Type 1} → statement M
 send-control-spec =
-    tie.close (tie.spec to-core-requires send-control-requires shown-requires same-length returns)
+    tie.close
+    (tie.spec
+    named-requires
+    refused-requires
+    returns
+    to-core-requires
+    send-control-requires
+    shown-requires
+    same-length
+    returns-2)

@@ -1,2 +1,5 @@
 pub mod PlainLaws
 mod Returns
+mod Stores
+mod RawPart
+mod StoredFields

@@ -114,7 +114,8 @@ pub extern "C" fn tindrabek_receiver_set_up(
     }
 }
 
-// ---- calls
+// ---- calls. Each stores the fields that can differ after it, and not the session keys. The rate is one, and so is the highest index of the
+// other window: a context has none where the struct's mark says so, whatever stands beside the mark.
 
 // Protects an RTP packet into `out`.
 #[no_mangle]
@@ -123,7 +124,10 @@ pub extern "C" fn tindrabek_send_media(ctx: &mut Sender, packet: &[u8], out: &mu
 {
     let c = *ctx;
     let after = c.send_media(packet, out);
-    *ctx = after.next;
+    ctx.session.profile.rate = after.next.session.profile.rate;
+    ctx.has_last = after.next.has_last;
+    ctx.last_index = after.next.last_index;
+    ctx.control_sent = after.next.control_sent;
     after.answer
 }
 
@@ -134,7 +138,10 @@ pub extern "C" fn tindrabek_send_control(ctx: &mut Sender, packet: &[u8], out: &
 {
     let c = *ctx;
     let after = c.send_control(packet, out);
-    *ctx = after.next;
+    ctx.session.profile.rate = after.next.session.profile.rate;
+    ctx.has_last = after.next.has_last;
+    ctx.last_index = after.next.last_index;
+    ctx.control_sent = after.next.control_sent;
     after.answer
 }
 
@@ -149,7 +156,9 @@ pub extern "C" fn tindrabek_receive_media(
 {
     let c = *ctx;
     let after = c.receive_media(packet, out);
-    *ctx = after.next;
+    ctx.session.profile.rate = after.next.session.profile.rate;
+    ctx.media = after.next.media;
+    ctx.control.highest = after.next.control.highest;
     after.answer
 }
 
@@ -164,6 +173,8 @@ pub extern "C" fn tindrabek_receive_control(
 {
     let c = *ctx;
     let after = c.receive_control(packet, out);
-    *ctx = after.next;
+    ctx.session.profile.rate = after.next.session.profile.rate;
+    ctx.control = after.next.control;
+    ctx.media.highest = after.next.media.highest;
     after.answer
 }

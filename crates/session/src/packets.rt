@@ -30,16 +30,9 @@ impl Settings {
     {
         let profile = self.profile;
         let cipher = profile.cipher;
-        octets::copy_over(&packet[..clear], out);
-        transforms::encipher(
-            cipher,
-            keys,
-            self.ssrc,
-            index,
-            0,
-            &packet[clear..],
-            &mut out[clear..],
-        );
+        octets::copy_over(packet, out);
+        let n = packet.len();
+        transforms::encipher(cipher, keys, self.ssrc, index, 0, &mut out[clear..n]);
     }
 }
 

@@ -47,9 +47,8 @@ fn high_blocks(keys: SessionKeys) {
 fn block(keys: SessionKeys, name: &[u8], j: usize)
     requires { ⌜ j < 0x10000 ⌝ }
 {
-    let zeros = [0u8; 16];
     let mut out = [0u8; 16];
-    transforms::encipher(Cipher::Aes, keys, 0, 0, 16 * j, &zeros, &mut out);
+    transforms::encipher(Cipher::Aes, keys, 0, 0, 16 * j, &mut out);
     hex::print_bytes(name, &out);
 }
 
@@ -106,7 +105,7 @@ fn media_packet(t: &[u8; 256])
     let keys = SessionKeys::derive(t, SessionKeys::MEDIA_LABEL, master_key(), master_salt());
     let mut packet = [0u8; 28];
     hex::read(
-        b"800f1234decafbadcafebabe00000000000000000000000000000000",
+        b"800f1234decafbadcafebabeabababababababababababababababab",
         &mut packet,
     );
     protect_media(keys, &mut packet);
@@ -115,16 +114,7 @@ fn media_packet(t: &[u8; 256])
 fn protect_media(keys: SessionKeys, packet: &mut [u8])
     requires { ⌜ length (now packet) ≡ 28 ⌝ }
 {
-    let payload = [0xabu8; 16];
-    transforms::encipher(
-        Cipher::Aes,
-        keys,
-        0xcafe_babe,
-        0x1234,
-        0,
-        &payload,
-        &mut packet[12..],
-    );
+    transforms::encipher(Cipher::Aes, keys, 0xcafe_babe, 0x1234, 0, &mut packet[12..]);
     let tag = transforms::media_tag(Integrity::HmacSha1, keys, packet, 0x1234);
     print_packet(b"protected RTP ", packet, tag);
 }
@@ -136,7 +126,7 @@ fn control_packet(t: &[u8; 256])
     let keys = SessionKeys::derive(t, SessionKeys::CONTROL_LABEL, master_key(), master_salt());
     let mut packet = [0u8; 28];
     hex::read(
-        b"81c8000bcafebabe0000000000000000000000000000000080000000",
+        b"81c8000bcafebabeabababababababababababababababab80000000",
         &mut packet,
     );
     protect_control(keys, &mut packet);
@@ -145,16 +135,7 @@ fn control_packet(t: &[u8; 256])
 fn protect_control(keys: SessionKeys, packet: &mut [u8])
     requires { ⌜ length (now packet) ≡ 28 ⌝ }
 {
-    let rest = [0xabu8; 16];
-    transforms::encipher(
-        Cipher::Aes,
-        keys,
-        0xcafe_babe,
-        0,
-        0,
-        &rest,
-        &mut packet[8..],
-    );
+    transforms::encipher(Cipher::Aes, keys, 0xcafe_babe, 0, 0, &mut packet[8..24]);
     let tag = transforms::control_tag(keys, packet);
     print_packet(b"protected RTCP ", packet, tag);
 }

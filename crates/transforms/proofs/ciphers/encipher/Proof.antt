@@ -1,5 +1,6 @@
+use mathlib.Core.Path.{refl}
+use Rattle.transforms.proofs.EncipherLaws.{aes-text, no-text}
 use borrow.Author.Needs.{needs}
-use Rattle.transforms.proofs.EncipherLaws.{aes-over, null-over}
 use Rattle.transforms.proofs.ciphers.encipher.Statement.{statement}
 use Rattle.transforms.proofs.ciphers.encipher.Tie as tie
 
@@ -12,38 +13,20 @@ counter-mode-requires c κs = search needs
 enum-told-2 : tie.Need-enum-told-2
 enum-told-2 c = search needs
 
-copy-over-requires : tie.Need-copy-over-requires
-copy-over-requires c κs = search needs
-
 same-length : tie.Need-same-length
 same-length c = search needs
 
 returns : tie.Need-returns
 returns c =
-    let x = c .before .before .before .before .before .before .before .before .args in
+    let x = c .before .before .before .before .before .before .before .args in
     λ clear.
-    aes-over (x .cipher) (x .keys) (x .ssrc) (x .index) (x .start) clear (x .text .now) (x .out .now) _ (c .before .before .before .before .enum-told .given .1)
-    (c .before .before .counter-mode .ensures clear)
-
-same-length-2 : tie.Need-same-length-2
-same-length-2 c = search needs
+    aes-text (x .cipher) (x .keys) (x .ssrc) (x .index) (x .start) clear (x .text .now) _ (c .before .before .before .before .enum-told .given .1) (c .before .before .counter-mode .ensures clear)
 
 returns-2 : tie.Need-returns-2
 returns-2 c =
-    let x = c .before .before .before .before .before .before .before .before .args in
-    λ clear.
-    null-over (x .cipher) (x .keys) (x .ssrc) (x .index) (x .start) clear (x .text .now) (x .out .now) _ (c .before .before .before .before .enum-told2 .given .1)
-    (c .before .before .copy-over .ensures)
+    let x = c .before .before .before .args in
+    λ clear. no-text (x .cipher) (x .keys) (x .ssrc) (x .index) (x .start) clear (x .text .now) _ (c .enum-told2 .given .1) refl
 
 pub encipher-spec : {M : Type 1} → statement M
 encipher-spec =
-    tie.close
-    (tie.spec
-    enum-told
-    counter-mode-requires
-    enum-told-2
-    copy-over-requires
-    same-length
-    returns
-    same-length-2
-    returns-2)
+    tie.close (tie.spec enum-told counter-mode-requires enum-told-2 same-length returns returns-2)

@@ -12,7 +12,7 @@ use Rattle.octets.specs.Buffer.{over, overAt}
 use Rattle.octets.proofs.BufferLaws.{length-over, length-overAt, overAt-over, overAt-part}
 use Rattle.sha1.specs.declared.State.{State}
 use Rattle.sha1.specs.Sha1.{padding, zeros, blockAt, compress, hashValue, hashAll, digestOf}
-use Rattle.sha1.specs.Parts.{zeroFilled}
+use Rattle.sha1.specs.Parts.{zeroFilled, sha1After}
 
 -- ---- blocks one after the other
 
@@ -195,8 +195,35 @@ module _ (h : State) (m : List ℕ) (n : ℕ) (e : length m ≡ n % 64) where
 
 -- ---- the digest
 
+at-start : (bs d : List ℕ) → overAt 0 bs d ≡ over bs d
+unfolding overAt over
+at-start bs d = refl
+
 -- the five words of a hash value written one behind the other
-pub five-words : (h : State) (d₁ d₂ d₃ d₄ d₅ : List ℕ) → d₁ ≡ overAt 0 (toBytes 4 (h .a)) (replicate 20 0) → d₂ ≡ overAt 4 (toBytes 4 (h .b)) d₁
-    → d₃ ≡ overAt 8 (toBytes 4 (h .c)) d₂ → d₄ ≡ overAt 12 (toBytes 4 (h .d)) d₃ → d₅ ≡ overAt 16 (toBytes 4 (h .e)) d₄ → d₅ ≡ digestOf h
-unfolding overAt over digestOf
-five-words h d₁ d₂ d₃ d₄ d₅ e₁ e₂ e₃ e₄ e₅ = rw (e₅, e₄, e₃, e₂, e₁)
+pub five-words : (h : State) (d d₁ d₂ d₃ d₄ d₅ : List ℕ) → d₁ ≡ overAt 0 (toBytes 4 (h .a)) d → d₂ ≡ overAt 4 (toBytes 4 (h .b)) d₁
+    → d₃ ≡ overAt 8 (toBytes 4 (h .c)) d₂ → d₄ ≡ overAt 12 (toBytes 4 (h .d)) d₃ → d₅ ≡ overAt 16 (toBytes 4 (h .e)) d₄ → d₅ ≡ over (digestOf h) d
+unfolding digestOf
+five-words h d d₁ d₂ d₃ d₄ d₅ e₁ e₂ e₃ e₄ e₅ =
+    let a : List ℕ = toBytes 4 (h .a) in
+    let b : List ℕ = toBytes 4 (h .b) in
+    let c : List ℕ = toBytes 4 (h .c) in
+    e₅ ∙ ap (overAt 16 (toBytes 4 (h .e)))
+    (e₄ ∙ ap (overAt 12 (toBytes 4 (h .d)))
+    (e₃ ∙ ap (overAt 8 c) (e₂ ∙ ap (overAt 4 b) (e₁ ∙ at-start a d) ∙ overAt-over 4 a b d refl) ∙ overAt-over 8 (a ++ b) c d refl)
+    ∙ overAt-over 12 (a ++ b ++ c) (toBytes 4 (h .d)) d refl)
+    ∙ overAt-over 16 (a ++ b ++ c ++ toBytes 4 (h .d)) (toBytes 4 (h .e)) d refl
+
+pub digest-alone : (h : State) (d : List ℕ) → d ≡ over (digestOf h) (replicate 20 0) → d ≡ digestOf h
+unfolding over digestOf
+digest-alone h d e = e
+
+-- a digest behind one block, with its padding
+pub digest-padded : (h : State) (d₁ d₂ : List ℕ) → d₁ ≡ over (digestOf h) (replicate 64 0) → d₂ ≡ overAt 56 (toBytes 8 (8 * 84)) (set d₁ 20 0x80)
+    → d₂ ≡ digestOf h ++ padding 84
+unfolding overAt over digestOf padding
+digest-padded h d₁ d₂ e f = f ∙ ap (λ (l : List ℕ). overAt 56 (toBytes 8 (8 * 84)) (set l 20 0x80)) e
+
+pub digest-hashed : (h s r : State) (block : List ℕ) → block ≡ digestOf s ++ padding 84 → r ≡ compress h block → digestOf r ≡ sha1After h 64 (digestOf s)
+unfolding sha1After digestOf padding
+digest-hashed h s r block e f =
+    ap digestOf (f ∙ ap (compress h) e ∙ sym (hash-one h (digestOf s ++ padding 84) refl))

@@ -90,6 +90,5 @@ pub fn hmac(key: HmacKey, a: &[u8], b: &[u8]) -> [u8; 20]
 {
     let inner = key.inner;
     let outer = key.outer;
-    let d = message::digest_after(inner, 64, a, b);
-    message::digest_after(outer, 64, &d, b"")
+    message::digest_of_digest(outer, message::hash_after(inner, 64, a, b))
 }

@@ -5,7 +5,7 @@ ghost use mathlib.Core.List.{[], _∷_, _++_};
 ghost use Prim.Native.Nat.{_+_, _*_, _%_, _^_, _≤_, _<_};
 ghost use lib.ListN.{length};
 ghost use Rattle.octets.specs.BigEndian.{toBytes};
-ghost use Rattle.octets.specs.Buffer.{overAt};
+ghost use Rattle.octets.specs.Buffer.{over, overAt};
 ghost use Rattle.sha1.specs.Sha1.{padding, hashAll, digestOf};
 ghost use Rattle.sha1.specs.Parts.{zeroFilled, sha1After};
 use crate::State;
@@ -99,26 +99,61 @@ fn rest_in_parts(h: State, n: usize, a: &[u8], b: &[u8]) -> State
     rest(s, n, &b[gap..])
 }
 
+// Writes the digest over the start of `d`.
+fn put_digest(h: State, d: &mut [u8])
+    requires { ⌜ 20 ≤ length (now d) ⌝ }
+    ensures { λ _. ⌜ now (d .exit) ≡ over (digestOf h) (now (d .entry)) ⌝ }
+{
+    octets::store32(d, 0, h.a);
+    octets::store32(d, 4, h.b);
+    octets::store32(d, 8, h.c);
+    octets::store32(d, 12, h.d);
+    octets::store32(d, 16, h.e);
+}
+
 fn digest_of(h: State) -> [u8; 20]
     ensures { λ r. ⌜ r ≡ digestOf h ⌝ }
 {
     let mut d = [0u8; 20];
-    octets::store32(&mut d, 0, h.a);
-    octets::store32(&mut d, 4, h.b);
-    octets::store32(&mut d, 8, h.c);
-    octets::store32(&mut d, 12, h.d);
-    octets::store32(&mut d, 16, h.e);
+    put_digest(h, &mut d);
     d
 }
 
-// The digest of a message whose first `before` bytes, whole blocks, have led to `h`, and whose rest is `a` and `b`.
+// The hash value of a message whose first `before` bytes, whole blocks, have led to `h`, and whose rest is `a` and `b`.
 // As FIPS 180-4 has it, a message is shorter than 2^64 bits.
-pub fn digest_after(h: State, before: usize, a: &[u8], b: &[u8]) -> [u8; 20]
+pub fn hash_after(h: State, before: usize, a: &[u8], b: &[u8]) -> State
     requires { ⌜ (before % 64 ≡ 0) × (8 * (before + (length (now a) + length (now b))) < 2 ^ 64) ⌝ }
-    ensures { λ r. ⌜ r ≡ sha1After h before (now (a .entry) ++ now (b .entry)) ⌝ }
+    ensures { λ r. ⌜ digestOf r ≡ sha1After h before (now (a .entry) ++ now (b .entry)) ⌝ }
 {
     let n = before + (a.len() + b.len());
     let s = whole_blocks(h, a);
     let at = 64 * (a.len() / 64);
-    digest_of(rest_in_parts(s, n, &a[at..], b))
+    rest_in_parts(s, n, &a[at..], b)
+}
+
+// Its digest.
+pub fn digest_after(h: State, before: usize, a: &[u8], b: &[u8]) -> [u8; 20]
+    requires { ⌜ (before % 64 ≡ 0) × (8 * (before + (length (now a) + length (now b))) < 2 ^ 64) ⌝ }
+    ensures { λ r. ⌜ r ≡ sha1After h before (now (a .entry) ++ now (b .entry)) ⌝ }
+{
+    digest_of(hash_after(h, before, a, b))
+}
+
+// The last block of a message that is one block and a digest.
+fn digest_block(s: State) -> [u8; 64]
+    ensures { λ r. ⌜ r ≡ digestOf s ++ padding 84 ⌝ }
+{
+    let mut block = [0u8; 64];
+    put_digest(s, &mut block);
+    block[20] = 0x80;
+    set_length(&mut block, 84);
+    block
+}
+
+// The digest of such a message, whose first block has led to `h`.
+pub fn digest_of_digest(h: State, s: State) -> [u8; 20]
+    ensures { λ r. ⌜ r ≡ sha1After h 64 (digestOf s) ⌝ }
+{
+    let block = digest_block(s);
+    digest_of(compress(h, &block))
 }

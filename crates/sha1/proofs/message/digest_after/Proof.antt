@@ -1,62 +1,16 @@
-use mathlib.Core.Path.{sym, ap, _∙_}
-use mathlib.Core.List.{_++_}
-use Prim.Native.Nat.{ℕ, _+_}
+use mathlib.Core.Path.{_∙_}
 use borrow.Author.Needs.{needs}
-use lib.ListN.{length, length-append}
-use Rattle.sha1.specs.Sha1.{padding, hashAll, digestOf}
-use Rattle.sha1.specs.Parts.{sha1After}
-use Rattle.sha1.proofs.MessageLaws.{hash-rest}
 use Rattle.sha1.proofs.message.digest_after.Statement.{statement}
 use Rattle.sha1.proofs.message.digest_after.Tie as tie
 
-add-n : tie.Need-add-n
-add-n c = search needs
-
-add-n-2 : tie.Need-add-n-2
-add-n-2 c = search needs
-
-whole-blocks-requires : tie.Need-whole-blocks-requires
-whole-blocks-requires c κs = search needs
-
-mul-at : tie.Need-mul-at
-mul-at c = search needs
-
-sub-rest-in-parts : tie.Need-sub-rest-in-parts
-sub-rest-in-parts c = search needs
-
-part-rest-in-parts-start : tie.Need-part-rest-in-parts-start
-part-rest-in-parts-start c = search needs
-
-part-rest-in-parts-end : tie.Need-part-rest-in-parts-end
-part-rest-in-parts-end c = search needs
-
-rest-in-parts-requires : tie.Need-rest-in-parts-requires
-rest-in-parts-requires c κs = search needs
+hash-after-requires : tie.Need-hash-after-requires
+hash-after-requires c κs = search needs
 
 digest-of-requires : tie.Need-digest-of-requires
 digest-of-requires c κs = search needs
 
 returns : tie.Need-returns
-unfolding sha1After
-returns c =
-    let x = c .before .before .before .before .before .before .args in
-    let a = x .a .now in
-    let b = x .b .now in
-    c .digest-of .ensures
-    ∙ ap digestOf (c .before .rest-in-parts .ensures ∙ hash-rest (x .h) _ a b (padding (x .before + (length a + length b))) (c .before .before .before .whole-blocks .ensures)
-    ∙ ap (λ (n : ℕ). hashAll (x .h) ((a ++ b) ++ padding (x .before + n))) (sym (length-append a b)))
+returns c = c .digest-of .ensures ∙ c .before .hash-after .ensures
 
 pub digest-after-spec : {M : Type 1} → statement M
-digest-after-spec =
-    tie.close
-    (tie.spec
-    add-n
-    add-n-2
-    whole-blocks-requires
-    mul-at
-    sub-rest-in-parts
-    part-rest-in-parts-start
-    part-rest-in-parts-end
-    rest-in-parts-requires
-    digest-of-requires
-    returns)
+digest-after-spec = tie.close (tie.spec hash-after-requires digest-of-requires returns)

@@ -31,29 +31,29 @@ exchange k p u q r s =
 
 -- round 2 with u for its first column
 other-first : (t : List ℕ) (p u b c d : ℕ) (m : State)
-    → addedTo (addedTo (roundBy t (state p b c d) m) (spreadBy t p)) (spreadBy t u) ≡ roundBy t (state u b c d) m
+    → addedTo (addedTo (roundBy t 2 (state p b c d) m) (spreadBy t p)) (spreadBy t u) ≡ roundBy t 2 (state u b c d) m
 other-first t p u b c d m = same-state
-    (exchange (m .c0) (rowBy t 0 p) (rowBy t 0 u) (rowBy t 1 b) (rowBy t 2 c) (rowBy t 3 d))
-    (exchange (m .c1) (rowBy t 3 p) (rowBy t 3 u) (rowBy t 0 b) (rowBy t 1 c) (rowBy t 2 d))
-    (exchange (m .c2) (rowBy t 2 p) (rowBy t 2 u) (rowBy t 3 b) (rowBy t 0 c) (rowBy t 1 d))
-    (exchange (m .c3) (rowBy t 1 p) (rowBy t 1 u) (rowBy t 2 b) (rowBy t 3 c) (rowBy t 0 d))
+    (exchange (m .c0) (rowBy t 2 0 p) (rowBy t 2 0 u) (rowBy t 2 1 b) (rowBy t 2 2 c) (rowBy t 2 3 d))
+    (exchange (m .c1) (rowBy t 2 3 p) (rowBy t 2 3 u) (rowBy t 2 0 b) (rowBy t 2 1 c) (rowBy t 2 2 d))
+    (exchange (m .c2) (rowBy t 2 2 p) (rowBy t 2 2 u) (rowBy t 2 3 b) (rowBy t 2 0 c) (rowBy t 2 1 d))
+    (exchange (m .c3) (rowBy t 2 1 p) (rowBy t 2 1 u) (rowBy t 2 2 b) (rowBy t 2 3 c) (rowBy t 2 0 d))
 
 -- both rounds: v is the last column before round 1
 module _ (t : List ℕ) (x k m : State) (v : ℕ) (e1 : byte 1 (x .c3) ≡ byte 1 v) (e2 : byte 2 (x .c3) ≡ byte 2 v) (e3 : byte 3 (x .c3) ≡ byte 3 v) where
-  two-rounds : afterTwo t (frontBy t x k m) v ≡ roundBy t (roundBy t (ending x v) k) m
+  two-rounds : afterTwo t (frontBy t x k m) v ≡ roundBy t 2 (roundBy t 2 (ending x v) k) m
   two-rounds =
-      let y : State = roundBy t x k in
-      let a : ℕ = bitXor (bitXor (bitXor (k .c0) (rowBy t 0 (x .c0))) (rowBy t 1 (x .c1))) (rowBy t 2 (x .c2)) in
-      let b : ℕ = bitXor (bitXor (bitXor (k .c1) (rowBy t 3 (x .c0))) (rowBy t 0 (x .c1))) (rowBy t 1 (x .c2)) in
-      let c : ℕ = bitXor (bitXor (bitXor (k .c2) (rowBy t 2 (x .c0))) (rowBy t 3 (x .c1))) (rowBy t 0 (x .c2)) in
-      let d : ℕ = bitXor (bitXor (bitXor (k .c3) (rowBy t 1 (x .c0))) (rowBy t 2 (x .c1))) (rowBy t 3 (x .c2)) in
-      other-first t (y .c0) (bitXor (bitXor (y .c0) (rowBy t 3 (x .c3))) (rowBy t 3 v)) (y .c1) (y .c2) (y .c3) m
-      ∙ ap (λ (s : State). roundBy t s m)
+      let y : State = roundBy t 2 x k in
+      let a : ℕ = bitXor (bitXor (bitXor (k .c0) (rowBy t 2 0 (x .c0))) (rowBy t 2 1 (x .c1))) (rowBy t 2 2 (x .c2)) in
+      let b : ℕ = bitXor (bitXor (bitXor (k .c1) (rowBy t 2 3 (x .c0))) (rowBy t 2 0 (x .c1))) (rowBy t 2 1 (x .c2)) in
+      let c : ℕ = bitXor (bitXor (bitXor (k .c2) (rowBy t 2 2 (x .c0))) (rowBy t 2 3 (x .c1))) (rowBy t 2 0 (x .c2)) in
+      let d : ℕ = bitXor (bitXor (bitXor (k .c3) (rowBy t 2 1 (x .c0))) (rowBy t 2 2 (x .c1))) (rowBy t 2 3 (x .c2)) in
+      other-first t (y .c0) (bitXor (bitXor (y .c0) (rowBy t 2 3 (x .c3))) (rowBy t 2 3 v)) (y .c1) (y .c2) (y .c3) m
+      ∙ ap (λ (s : State). roundBy t 2 s m)
       (same-state
-      (ap (λ (n : ℕ). bitXor n (rowBy t 3 v)) (xor-twice a (rowBy t 3 (x .c3))))
-      (ap (λ (n : ℕ). bitXor b (cell t 2 n)) e1)
-      (ap (λ (n : ℕ). bitXor c (cell t 1 n)) e2)
-      (ap (λ (n : ℕ). bitXor d (cell t 0 n)) e3))
+      (ap (λ (n : ℕ). bitXor n (rowBy t 2 3 v)) (xor-twice a (rowBy t 2 3 (x .c3))))
+      (ap (λ (n : ℕ). bitXor b (cell t 2 2 n)) e1)
+      (ap (λ (n : ℕ). bitXor c (cell t 2 1 n)) e2)
+      (ap (λ (n : ℕ). bitXor d (cell t 2 0 n)) e3))
 
 -- ---- the front, of a block
 
@@ -73,7 +73,7 @@ front-by t w h s = record {
       let m : State = keyState w 2 in
       let x : State = addedTo (ending s v) z in
       ap block (two-rounds t (addedTo s z) k m (bitXor v (z .c3)) (higher 0 (s .c3) v (z .c3) e) (higher 1 (s .c3) v (z .c3) e) (higher 2 (s .c3) v (z .c3) e))
-      ∙ round-by t h (roundBy t x k) m
+      ∙ round-by t h (roundBy t 2 x k) m
       ∙ ap (λ (l : List ℕ). roundOf l (block m)) (round-by t h x k ∙ ap (λ (l : List ℕ). roundOf l (block k)) (added-to (ending s v) z));
 }
 
@@ -82,12 +82,12 @@ front-by t w h s = record {
 unfoldable frontWith : ℕ → State → Front
 frontWith f r = record { first = f; rest = r }
 
-pub front-terms : (t : List ℕ) (x k m y z sp ad : State) (v : ℕ) → y ≡ roundBy t x k → z ≡ roundBy t y m → v ≡ rowBy t 3 (x .c3) → sp ≡ spreadBy t (y .c0)
+pub front-terms : (t : List ℕ) (x k m y z sp ad : State) (v : ℕ) → y ≡ roundBy t 2 x k → z ≡ roundBy t 2 y m → v ≡ rowBy t 2 3 (x .c3) → sp ≡ spreadBy t (y .c0)
     → ad ≡ addedTo z sp → record { first = bitXor (y .c0) v; rest = ad } ≡ frontBy t x k m
 unfolding frontWith
 front-terms t x k m y z sp ad v ey ez ev esp ead =
     ap₂ frontWith (ap (bitXor (y .c0)) ev) (ead ∙ ap₂ addedTo ez esp)
-    ∙ ap (λ (y : State). frontWith (bitXor (y .c0) (rowBy t 3 (x .c3))) (addedTo (roundBy t y m) (spreadBy t (y .c0)))) ey
+    ∙ ap (λ (y : State). frontWith (bitXor (y .c0) (rowBy t 2 3 (x .c3))) (addedTo (roundBy t 2 y m) (spreadBy t (y .c0)))) ey
 
 pub front-made : (t : List ℕ) (w : List ℕ) → RoundTable t → (s z x k m : State) (f : Front) → z ≡ keyState w 0 → x ≡ addedTo s z → k ≡ keyState w 1 → m ≡ keyState w 2
     → f ≡ frontBy t x k m → FrontOf t w s f

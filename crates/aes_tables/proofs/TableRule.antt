@@ -1,4 +1,5 @@
--- A list is the table of a round if it has 1,024 words and in each row of each entry a computed test finds what the half's rule gives.
+-- A list is the table of a round, with that of the last round behind it, if it has 769 words and a computed test finds in each row of each
+-- entry what the rule gives.
 -- Assumes nothing.
 use mathlib.Core.Bool.{Bool, true, false, _&&_}
 use mathlib.Core.List.{List}
@@ -22,7 +23,7 @@ holds : (b : Bool) → T b → b ≡ true
 holds true t = refl
 holds false t = absurd t
 
-module _ (f : ℕ → ℕ → List ℕ) where
+module _ (f : ℕ → ℕ → List ℕ) (d : ℕ) where
   abbrev row : ℕ → ℕ → ℕ → Bool
   row r v s = same (toBytes 4 (word r v)) (f r s)
 
@@ -32,7 +33,7 @@ module _ (f : ℕ → ℕ → List ℕ) where
 
   -- every entry of the table
   abbrev pub allRight : List ℕ → Bool
-  allRight t = every {A = ℕ} (λ x y. right (entry t x) (sBox x)) 0 (replicate 256 0)
+  allRight t = every {A = ℕ} (λ x y. right (entry t d x) (sBox x)) 0 (replicate 256 0)
 
   module _ (v s : ℕ) where
     row-is : (r : ℕ) → T (row r v s) → toBytes 4 (word r v) ≡ f r s
@@ -47,9 +48,9 @@ module _ (f : ℕ → ℕ → List ℕ) where
         row-is 3 (both (row 2 v s) (row 3 v s) (both (row 1 v s) (row 2 v s && row 3 v s) (both (row 0 v s) (row 1 v s && (row 2 v s && row 3 v s)) t .1) .1) .1)
     each t (suc (suc (suc (suc r)))) h = let z : ⊥ = omega arith in absurd z
 
-  rows : (t : List ℕ) → T (allRight t) → Rows f t
+  rows : (t : List ℕ) → T (allRight t) → Rows f d t
   unfolding cell
-  rows t test r x h k = each (entry t x) (sBox x) (passed {A = ℕ} 0 (λ x y. right (entry t x) (sBox x)) (replicate 256 0) test x k) r h
+  rows t test r x h k = each (entry t d x) (sBox x) (passed {A = ℕ} 0 (λ x y. right (entry t d x) (sBox x)) (replicate 256 0) test x k) r h
 
-pub round-table : (t : List ℕ) → length t ≡ 1024 → T (allRight products t) → T (allRight alone (drop 512 t)) → RoundTable t
-round-table t size mixed last = record { size = size; mixed = rows products t mixed; last = rows alone (drop 512 t) last }
+pub round-table : (t : List ℕ) → length t ≡ 769 → T (allRight products 2 t) → T (allRight alone 1 (drop 512 t)) → RoundTable t
+round-table t size mixed last = record { size = size; mixed = rows products 2 t mixed; last = rows alone 1 (drop 512 t) last }

@@ -12,18 +12,18 @@ use Rattle.aes_tables.specs.Table.{cell}
 abbrev pub state : (a b c d : ℕ) → State
 state a b c d = record { c0 = a; c1 = b; c2 = c; c3 = d }
 
--- what the byte in row r of the column a adds
-abbrev pub rowBy : (t : List ℕ) (r a : ℕ) → ℕ
-rowBy t r a = cell t r (byte (3 - r) a)
+-- what the byte in row r of the column a adds, by a table whose entries are d words apart
+abbrev pub rowBy : (t : List ℕ) (d r a : ℕ) → ℕ
+rowBy t d r a = cell t d r (byte (3 - r) a)
 
 -- x with what the column a adds to it, where row r of a goes to the r-th column before the first; and turned, so that the column behind a comes next
-abbrev pub turnedBy : (t : List ℕ) (x : State) (a : ℕ) → State
-turnedBy t x a =
-    state (bitXor (x .c1) (rowBy t 3 a)) (bitXor (x .c2) (rowBy t 2 a)) (bitXor (x .c3) (rowBy t 1 a)) (bitXor (x .c0) (rowBy t 0 a))
+abbrev pub turnedBy : (t : List ℕ) (d : ℕ) (x : State) (a : ℕ) → State
+turnedBy t d x a =
+    state (bitXor (x .c1) (rowBy t d 3 a)) (bitXor (x .c2) (rowBy t d 2 a)) (bitXor (x .c3) (rowBy t d 1 a)) (bitXor (x .c0) (rowBy t d 0 a))
 
 -- a round on s with the key k
-abbrev pub roundBy : (t : List ℕ) (s k : State) → State
-roundBy t s k = turnedBy t (turnedBy t (turnedBy t (turnedBy t k (s .c0)) (s .c1)) (s .c2)) (s .c3)
+abbrev pub roundBy : (t : List ℕ) (d : ℕ) (s k : State) → State
+roundBy t d s k = turnedBy t d (turnedBy t d (turnedBy t d (turnedBy t d k (s .c0)) (s .c1)) (s .c2)) (s .c3)
 
 -- round key i
 abbrev pub keyState : List ℕ → ℕ → State

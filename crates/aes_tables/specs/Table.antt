@@ -25,20 +25,20 @@ alone (suc (suc (suc r))) s = 0 ∷ 0 ∷ 0 ∷ s ∷ []
 abbrev pub word : ℕ → ℕ → ℕ
 word r v = v / 2 ^ (8 * r) % 2 ^ 32
 
--- the two words of byte x as one number, the second above the first
-abbrev pub entry : List ℕ → ℕ → ℕ
-entry t x = getD t (2 * x + 1) 0 * 2 ^ 32 + getD t (2 * x) 0
+-- two words as one number, the second above the first: those of byte x, where entries are d words apart
+abbrev pub entry : (t : List ℕ) (d x : ℕ) → ℕ
+entry t d x = getD t (d * x + 1) 0 * 2 ^ 32 + getD t (d * x) 0
 
 -- row r of entry x
-unfoldable pub cell : List ℕ → ℕ → ℕ → ℕ
-cell t r x = word r (entry t x)
+unfoldable pub cell : (t : List ℕ) (d r x : ℕ) → ℕ
+cell t d r x = word r (entry t d x)
 
 -- a table has in each row of a byte's entry what f gives of the row and the substitute
-abbrev pub Rows : (ℕ → ℕ → List ℕ) → List ℕ → Type 0
-Rows f t = (r x : ℕ) → r < 4 → x < 256 → toBytes 4 (cell t r x) ≡ f r (sBox x)
+abbrev pub Rows : (ℕ → ℕ → List ℕ) → ℕ → List ℕ → Type 0
+Rows f d t = (r x : ℕ) → r < 4 → x < 256 → toBytes 4 (cell t d r x) ≡ f r (sBox x)
 
 -- the table of a round, and behind it that of the last round
 pub record RoundTable (t : List ℕ) : Type 0 where
-  pub size : length t ≡ 1024
-  pub mixed : Rows products t
-  pub last : Rows alone (drop 512 t)
+  pub size : length t ≡ 769
+  pub mixed : Rows products 2 t
+  pub last : Rows alone 1 (drop 512 t)

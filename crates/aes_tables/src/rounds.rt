@@ -27,7 +27,7 @@ pub(crate) fn finish(t: &[u32], w: &[u32], nr: usize, from: usize, a: State) -> 
     let mut x = a;
     let mut i = from;
     while i < nr {
-        x = round(t, x, key_at(w, i));
+        x = round(t, 2, x, key_at(w, i));
         i += 1;
     }
     last_round(t, x, key_at(w, nr))
@@ -58,47 +58,48 @@ pub(crate) fn added(s: State, k: State) -> State
     }
 }
 
-// A round by its table. It goes through the columns one by one: each is read once, and the compiler then keeps two states
+// A round by its table, whose entries are `d` words apart. It goes through the columns one by one: each is read once, and the compiler then keeps two states
 // at a time in registers.
-pub(crate) fn round(t: &[u32], s: State, k: State) -> State
-    requires { ⌜ 512 ≤ length (now t) ⌝ }
-    ensures { λ r. ⌜ r ≡ roundBy (now (t .entry)) s k ⌝ }
+pub(crate) fn round(t: &[u32], d: usize, s: State, k: State) -> State
+    requires { ⌜ d * 255 + 1 < length (now t) ⌝ }
+    ensures { λ r. ⌜ r ≡ roundBy (now (t .entry)) d s k ⌝ }
 {
-    let x = turned(t, k, s.c0);
-    let y = turned(t, x, s.c1);
-    let z = turned(t, y, s.c2);
-    turned(t, z, s.c3)
+    let x = turned(t, d, k, s.c0);
+    let y = turned(t, d, x, s.c1);
+    let z = turned(t, d, y, s.c2);
+    turned(t, d, z, s.c3)
 }
 
 // `x` with what the column `a` adds to it: ShiftRows takes row r of `a` to the r-th column before its own, which comes first here. What comes
 // back is turned by one column, so the next column's own comes first again.
-fn turned(t: &[u32], x: State, a: u32) -> State
-    requires { ⌜ 512 ≤ length (now t) ⌝ }
-    ensures { λ r. ⌜ r ≡ turnedBy (now (t .entry)) x a ⌝ }
+fn turned(t: &[u32], d: usize, x: State, a: u32) -> State
+    requires { ⌜ d * 255 + 1 < length (now t) ⌝ }
+    ensures { λ r. ⌜ r ≡ turnedBy (now (t .entry)) d x a ⌝ }
 {
     State {
-        c0: x.c1 ^ row(t, 3, a),
-        c1: x.c2 ^ row(t, 2, a),
-        c2: x.c3 ^ row(t, 1, a),
-        c3: x.c0 ^ row(t, 0, a),
+        c0: x.c1 ^ row(t, d, 3, a),
+        c1: x.c2 ^ row(t, d, 2, a),
+        c2: x.c3 ^ row(t, d, 1, a),
+        c3: x.c0 ^ row(t, d, 0, a),
     }
 }
 
 // What the byte in row r of the column `a` adds to the column where it goes.
-pub(crate) fn row(t: &[u32], r: u32, a: u32) -> u32
-    requires { ⌜ (512 ≤ length (now t)) × (r < 4) ⌝ }
-    ensures { λ v. ⌜ v ≡ rowBy (now (t .entry)) r a ⌝ }
+pub(crate) fn row(t: &[u32], d: usize, r: u32, a: u32) -> u32
+    requires { ⌜ (d * 255 + 1 < length (now t)) × (r < 4) ⌝ }
+    ensures { λ v. ⌜ v ≡ rowBy (now (t .entry)) d r a ⌝ }
 {
     let b = (a >> (24 - 8 * r)) % 256;
-    ((entry(t, b as usize) >> (8 * r)) % 0x1_0000_0000) as u32
+    ((entry(t, d, b as usize) >> (8 * r)) % 0x1_0000_0000) as u32
 }
 
 // An entry as one number, of which the compiler reads a row as one word.
-fn entry(t: &[u32], x: usize) -> u64
-    requires { ⌜ (512 ≤ length (now t)) × (x < 256) ⌝ }
-    ensures { λ r. ⌜ r ≡ entry (now (t .entry)) x ⌝ }
+fn entry(t: &[u32], d: usize, x: usize) -> u64
+    requires { ⌜ (d * 255 + 1 < length (now t)) × (x < 256) ⌝ }
+    ensures { λ r. ⌜ r ≡ entry (now (t .entry)) d x ⌝ }
 {
-    joined(t[2 * x], t[2 * x + 1])
+    let at = d * x;
+    joined(t[at], t[at + 1])
 }
 
 // Two words as one number.
@@ -108,10 +109,10 @@ fn joined(low: u32, high: u32) -> u64
     (high as u64) * 0x1_0000_0000 + (low as u64)
 }
 
-// The last round has no MixColumns: what a byte adds to it stands in the table's second half.
+// The last round has no MixColumns: it goes by the second table.
 pub(crate) fn last_round(t: &[u32], s: State, k: State) -> State
     requires { ⌜ RoundTable (now t) ⌝ }
     ensures { λ r. ⌜ block r ≡ lastRoundOf (block s) (block k) ⌝ }
 {
-    round(&t[512..], s, k)
+    round(&t[512..], 1, s, k)
 }

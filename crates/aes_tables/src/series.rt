@@ -31,10 +31,10 @@ fn front_behind(t: &[u32], x: State, k: State, m: State) -> Front
     requires { ⌜ 512 ≤ length (now t) ⌝ }
     ensures { λ r. ⌜ r ≡ frontBy (now (t .entry)) x k m ⌝ }
 {
-    let y = round(t, x, k);
-    let z = round(t, y, m);
+    let y = round(t, 2, x, k);
+    let z = round(t, 2, y, m);
     Front {
-        first: y.c0 ^ row(t, 3, x.c3),
+        first: y.c0 ^ row(t, 2, 3, x.c3),
         rest: added(z, spread(t, y.c0)),
     }
 }
@@ -45,10 +45,10 @@ fn spread(t: &[u32], y: u32) -> State
     ensures { λ r. ⌜ r ≡ spreadBy (now (t .entry)) y ⌝ }
 {
     State {
-        c0: row(t, 0, y),
-        c1: row(t, 3, y),
-        c2: row(t, 2, y),
-        c3: row(t, 1, y),
+        c0: row(t, 2, 0, y),
+        c1: row(t, 2, 3, y),
+        c2: row(t, 2, 2, y),
+        c3: row(t, 2, 1, y),
     }
 }
 
@@ -58,7 +58,7 @@ fn behind_two(t: &[u32], f: Front, x: u32) -> State
     ensures { λ r. ⌜ r ≡ afterTwo (now (t .entry)) f x ⌝ }
 {
     let rest = f.rest;
-    added(rest, spread(t, f.first ^ row(t, 3, x)))
+    added(rest, spread(t, f.first ^ row(t, 2, 3, x)))
 }
 
 // The cipher with `nr` rounds on a block, `s` with `j` as its last byte. `f` is its front.
@@ -105,8 +105,8 @@ fn encrypt_behind_two(t: &[u32], w: &[u32], nr: usize, a: State, b: State) -> Pa
     let mut i = 3;
     while i < nr {
         let k = key_at(w, i);
-        x = round(t, x, k);
-        y = round(t, y, k);
+        x = round(t, 2, x, k);
+        y = round(t, 2, y, k);
         i += 1;
     }
     let k = key_at(w, nr);

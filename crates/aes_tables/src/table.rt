@@ -1,8 +1,9 @@
-// The table of a round: two words for each byte, whose row r is the word that begins r bytes up. The first half has what a byte adds to the
-// columns of a round, and the second half what it adds to those of the last round: its substitute alone.
+// The tables of a round and of the last round, one behind the other. Row r of an entry is the word that begins r bytes up. What a byte adds to the
+// columns of a round has all four bytes of a word, and its entry is that word twice over. What it adds to those of the last round is its
+// substitute alone: there an entry is one word, and the zeros of the next one are behind it.
 ghost use Rattle.aes_tables.specs.Table.{RoundTable};
 
-const ROUND_TABLE: [u32; 1024] = [
+const ROUND_TABLE: [u32; 769] = [
     0xc663_63a5, // byte 0x00
     0xc663_63a5,
     0xf87c_7c84, // byte 0x01
@@ -516,521 +517,266 @@ const ROUND_TABLE: [u32; 1024] = [
     0x2c16_163a, // byte 0xff
     0x2c16_163a,
     0x6300_0000, // byte 0x00, last round
-    0,
     0x7c00_0000, // byte 0x01, last round
-    0,
     0x7700_0000, // byte 0x02, last round
-    0,
     0x7b00_0000, // byte 0x03, last round
-    0,
     0xf200_0000, // byte 0x04, last round
-    0,
     0x6b00_0000, // byte 0x05, last round
-    0,
     0x6f00_0000, // byte 0x06, last round
-    0,
     0xc500_0000, // byte 0x07, last round
-    0,
     0x3000_0000, // byte 0x08, last round
-    0,
     0x0100_0000, // byte 0x09, last round
-    0,
     0x6700_0000, // byte 0x0a, last round
-    0,
     0x2b00_0000, // byte 0x0b, last round
-    0,
     0xfe00_0000, // byte 0x0c, last round
-    0,
     0xd700_0000, // byte 0x0d, last round
-    0,
     0xab00_0000, // byte 0x0e, last round
-    0,
     0x7600_0000, // byte 0x0f, last round
-    0,
     0xca00_0000, // byte 0x10, last round
-    0,
     0x8200_0000, // byte 0x11, last round
-    0,
     0xc900_0000, // byte 0x12, last round
-    0,
     0x7d00_0000, // byte 0x13, last round
-    0,
     0xfa00_0000, // byte 0x14, last round
-    0,
     0x5900_0000, // byte 0x15, last round
-    0,
     0x4700_0000, // byte 0x16, last round
-    0,
     0xf000_0000, // byte 0x17, last round
-    0,
     0xad00_0000, // byte 0x18, last round
-    0,
     0xd400_0000, // byte 0x19, last round
-    0,
     0xa200_0000, // byte 0x1a, last round
-    0,
     0xaf00_0000, // byte 0x1b, last round
-    0,
     0x9c00_0000, // byte 0x1c, last round
-    0,
     0xa400_0000, // byte 0x1d, last round
-    0,
     0x7200_0000, // byte 0x1e, last round
-    0,
     0xc000_0000, // byte 0x1f, last round
-    0,
     0xb700_0000, // byte 0x20, last round
-    0,
     0xfd00_0000, // byte 0x21, last round
-    0,
     0x9300_0000, // byte 0x22, last round
-    0,
     0x2600_0000, // byte 0x23, last round
-    0,
     0x3600_0000, // byte 0x24, last round
-    0,
     0x3f00_0000, // byte 0x25, last round
-    0,
     0xf700_0000, // byte 0x26, last round
-    0,
     0xcc00_0000, // byte 0x27, last round
-    0,
     0x3400_0000, // byte 0x28, last round
-    0,
     0xa500_0000, // byte 0x29, last round
-    0,
     0xe500_0000, // byte 0x2a, last round
-    0,
     0xf100_0000, // byte 0x2b, last round
-    0,
     0x7100_0000, // byte 0x2c, last round
-    0,
     0xd800_0000, // byte 0x2d, last round
-    0,
     0x3100_0000, // byte 0x2e, last round
-    0,
     0x1500_0000, // byte 0x2f, last round
-    0,
     0x0400_0000, // byte 0x30, last round
-    0,
     0xc700_0000, // byte 0x31, last round
-    0,
     0x2300_0000, // byte 0x32, last round
-    0,
     0xc300_0000, // byte 0x33, last round
-    0,
     0x1800_0000, // byte 0x34, last round
-    0,
     0x9600_0000, // byte 0x35, last round
-    0,
     0x0500_0000, // byte 0x36, last round
-    0,
     0x9a00_0000, // byte 0x37, last round
-    0,
     0x0700_0000, // byte 0x38, last round
-    0,
     0x1200_0000, // byte 0x39, last round
-    0,
     0x8000_0000, // byte 0x3a, last round
-    0,
     0xe200_0000, // byte 0x3b, last round
-    0,
     0xeb00_0000, // byte 0x3c, last round
-    0,
     0x2700_0000, // byte 0x3d, last round
-    0,
     0xb200_0000, // byte 0x3e, last round
-    0,
     0x7500_0000, // byte 0x3f, last round
-    0,
     0x0900_0000, // byte 0x40, last round
-    0,
     0x8300_0000, // byte 0x41, last round
-    0,
     0x2c00_0000, // byte 0x42, last round
-    0,
     0x1a00_0000, // byte 0x43, last round
-    0,
     0x1b00_0000, // byte 0x44, last round
-    0,
     0x6e00_0000, // byte 0x45, last round
-    0,
     0x5a00_0000, // byte 0x46, last round
-    0,
     0xa000_0000, // byte 0x47, last round
-    0,
     0x5200_0000, // byte 0x48, last round
-    0,
     0x3b00_0000, // byte 0x49, last round
-    0,
     0xd600_0000, // byte 0x4a, last round
-    0,
     0xb300_0000, // byte 0x4b, last round
-    0,
     0x2900_0000, // byte 0x4c, last round
-    0,
     0xe300_0000, // byte 0x4d, last round
-    0,
     0x2f00_0000, // byte 0x4e, last round
-    0,
     0x8400_0000, // byte 0x4f, last round
-    0,
     0x5300_0000, // byte 0x50, last round
-    0,
     0xd100_0000, // byte 0x51, last round
-    0,
     0x0000_0000, // byte 0x52, last round
-    0,
     0xed00_0000, // byte 0x53, last round
-    0,
     0x2000_0000, // byte 0x54, last round
-    0,
     0xfc00_0000, // byte 0x55, last round
-    0,
     0xb100_0000, // byte 0x56, last round
-    0,
     0x5b00_0000, // byte 0x57, last round
-    0,
     0x6a00_0000, // byte 0x58, last round
-    0,
     0xcb00_0000, // byte 0x59, last round
-    0,
     0xbe00_0000, // byte 0x5a, last round
-    0,
     0x3900_0000, // byte 0x5b, last round
-    0,
     0x4a00_0000, // byte 0x5c, last round
-    0,
     0x4c00_0000, // byte 0x5d, last round
-    0,
     0x5800_0000, // byte 0x5e, last round
-    0,
     0xcf00_0000, // byte 0x5f, last round
-    0,
     0xd000_0000, // byte 0x60, last round
-    0,
     0xef00_0000, // byte 0x61, last round
-    0,
     0xaa00_0000, // byte 0x62, last round
-    0,
     0xfb00_0000, // byte 0x63, last round
-    0,
     0x4300_0000, // byte 0x64, last round
-    0,
     0x4d00_0000, // byte 0x65, last round
-    0,
     0x3300_0000, // byte 0x66, last round
-    0,
     0x8500_0000, // byte 0x67, last round
-    0,
     0x4500_0000, // byte 0x68, last round
-    0,
     0xf900_0000, // byte 0x69, last round
-    0,
     0x0200_0000, // byte 0x6a, last round
-    0,
     0x7f00_0000, // byte 0x6b, last round
-    0,
     0x5000_0000, // byte 0x6c, last round
-    0,
     0x3c00_0000, // byte 0x6d, last round
-    0,
     0x9f00_0000, // byte 0x6e, last round
-    0,
     0xa800_0000, // byte 0x6f, last round
-    0,
     0x5100_0000, // byte 0x70, last round
-    0,
     0xa300_0000, // byte 0x71, last round
-    0,
     0x4000_0000, // byte 0x72, last round
-    0,
     0x8f00_0000, // byte 0x73, last round
-    0,
     0x9200_0000, // byte 0x74, last round
-    0,
     0x9d00_0000, // byte 0x75, last round
-    0,
     0x3800_0000, // byte 0x76, last round
-    0,
     0xf500_0000, // byte 0x77, last round
-    0,
     0xbc00_0000, // byte 0x78, last round
-    0,
     0xb600_0000, // byte 0x79, last round
-    0,
     0xda00_0000, // byte 0x7a, last round
-    0,
     0x2100_0000, // byte 0x7b, last round
-    0,
     0x1000_0000, // byte 0x7c, last round
-    0,
     0xff00_0000, // byte 0x7d, last round
-    0,
     0xf300_0000, // byte 0x7e, last round
-    0,
     0xd200_0000, // byte 0x7f, last round
-    0,
     0xcd00_0000, // byte 0x80, last round
-    0,
     0x0c00_0000, // byte 0x81, last round
-    0,
     0x1300_0000, // byte 0x82, last round
-    0,
     0xec00_0000, // byte 0x83, last round
-    0,
     0x5f00_0000, // byte 0x84, last round
-    0,
     0x9700_0000, // byte 0x85, last round
-    0,
     0x4400_0000, // byte 0x86, last round
-    0,
     0x1700_0000, // byte 0x87, last round
-    0,
     0xc400_0000, // byte 0x88, last round
-    0,
     0xa700_0000, // byte 0x89, last round
-    0,
     0x7e00_0000, // byte 0x8a, last round
-    0,
     0x3d00_0000, // byte 0x8b, last round
-    0,
     0x6400_0000, // byte 0x8c, last round
-    0,
     0x5d00_0000, // byte 0x8d, last round
-    0,
     0x1900_0000, // byte 0x8e, last round
-    0,
     0x7300_0000, // byte 0x8f, last round
-    0,
     0x6000_0000, // byte 0x90, last round
-    0,
     0x8100_0000, // byte 0x91, last round
-    0,
     0x4f00_0000, // byte 0x92, last round
-    0,
     0xdc00_0000, // byte 0x93, last round
-    0,
     0x2200_0000, // byte 0x94, last round
-    0,
     0x2a00_0000, // byte 0x95, last round
-    0,
     0x9000_0000, // byte 0x96, last round
-    0,
     0x8800_0000, // byte 0x97, last round
-    0,
     0x4600_0000, // byte 0x98, last round
-    0,
     0xee00_0000, // byte 0x99, last round
-    0,
     0xb800_0000, // byte 0x9a, last round
-    0,
     0x1400_0000, // byte 0x9b, last round
-    0,
     0xde00_0000, // byte 0x9c, last round
-    0,
     0x5e00_0000, // byte 0x9d, last round
-    0,
     0x0b00_0000, // byte 0x9e, last round
-    0,
     0xdb00_0000, // byte 0x9f, last round
-    0,
     0xe000_0000, // byte 0xa0, last round
-    0,
     0x3200_0000, // byte 0xa1, last round
-    0,
     0x3a00_0000, // byte 0xa2, last round
-    0,
     0x0a00_0000, // byte 0xa3, last round
-    0,
     0x4900_0000, // byte 0xa4, last round
-    0,
     0x0600_0000, // byte 0xa5, last round
-    0,
     0x2400_0000, // byte 0xa6, last round
-    0,
     0x5c00_0000, // byte 0xa7, last round
-    0,
     0xc200_0000, // byte 0xa8, last round
-    0,
     0xd300_0000, // byte 0xa9, last round
-    0,
     0xac00_0000, // byte 0xaa, last round
-    0,
     0x6200_0000, // byte 0xab, last round
-    0,
     0x9100_0000, // byte 0xac, last round
-    0,
     0x9500_0000, // byte 0xad, last round
-    0,
     0xe400_0000, // byte 0xae, last round
-    0,
     0x7900_0000, // byte 0xaf, last round
-    0,
     0xe700_0000, // byte 0xb0, last round
-    0,
     0xc800_0000, // byte 0xb1, last round
-    0,
     0x3700_0000, // byte 0xb2, last round
-    0,
     0x6d00_0000, // byte 0xb3, last round
-    0,
     0x8d00_0000, // byte 0xb4, last round
-    0,
     0xd500_0000, // byte 0xb5, last round
-    0,
     0x4e00_0000, // byte 0xb6, last round
-    0,
     0xa900_0000, // byte 0xb7, last round
-    0,
     0x6c00_0000, // byte 0xb8, last round
-    0,
     0x5600_0000, // byte 0xb9, last round
-    0,
     0xf400_0000, // byte 0xba, last round
-    0,
     0xea00_0000, // byte 0xbb, last round
-    0,
     0x6500_0000, // byte 0xbc, last round
-    0,
     0x7a00_0000, // byte 0xbd, last round
-    0,
     0xae00_0000, // byte 0xbe, last round
-    0,
     0x0800_0000, // byte 0xbf, last round
-    0,
     0xba00_0000, // byte 0xc0, last round
-    0,
     0x7800_0000, // byte 0xc1, last round
-    0,
     0x2500_0000, // byte 0xc2, last round
-    0,
     0x2e00_0000, // byte 0xc3, last round
-    0,
     0x1c00_0000, // byte 0xc4, last round
-    0,
     0xa600_0000, // byte 0xc5, last round
-    0,
     0xb400_0000, // byte 0xc6, last round
-    0,
     0xc600_0000, // byte 0xc7, last round
-    0,
     0xe800_0000, // byte 0xc8, last round
-    0,
     0xdd00_0000, // byte 0xc9, last round
-    0,
     0x7400_0000, // byte 0xca, last round
-    0,
     0x1f00_0000, // byte 0xcb, last round
-    0,
     0x4b00_0000, // byte 0xcc, last round
-    0,
     0xbd00_0000, // byte 0xcd, last round
-    0,
     0x8b00_0000, // byte 0xce, last round
-    0,
     0x8a00_0000, // byte 0xcf, last round
-    0,
     0x7000_0000, // byte 0xd0, last round
-    0,
     0x3e00_0000, // byte 0xd1, last round
-    0,
     0xb500_0000, // byte 0xd2, last round
-    0,
     0x6600_0000, // byte 0xd3, last round
-    0,
     0x4800_0000, // byte 0xd4, last round
-    0,
     0x0300_0000, // byte 0xd5, last round
-    0,
     0xf600_0000, // byte 0xd6, last round
-    0,
     0x0e00_0000, // byte 0xd7, last round
-    0,
     0x6100_0000, // byte 0xd8, last round
-    0,
     0x3500_0000, // byte 0xd9, last round
-    0,
     0x5700_0000, // byte 0xda, last round
-    0,
     0xb900_0000, // byte 0xdb, last round
-    0,
     0x8600_0000, // byte 0xdc, last round
-    0,
     0xc100_0000, // byte 0xdd, last round
-    0,
     0x1d00_0000, // byte 0xde, last round
-    0,
     0x9e00_0000, // byte 0xdf, last round
-    0,
     0xe100_0000, // byte 0xe0, last round
-    0,
     0xf800_0000, // byte 0xe1, last round
-    0,
     0x9800_0000, // byte 0xe2, last round
-    0,
     0x1100_0000, // byte 0xe3, last round
-    0,
     0x6900_0000, // byte 0xe4, last round
-    0,
     0xd900_0000, // byte 0xe5, last round
-    0,
     0x8e00_0000, // byte 0xe6, last round
-    0,
     0x9400_0000, // byte 0xe7, last round
-    0,
     0x9b00_0000, // byte 0xe8, last round
-    0,
     0x1e00_0000, // byte 0xe9, last round
-    0,
     0x8700_0000, // byte 0xea, last round
-    0,
     0xe900_0000, // byte 0xeb, last round
-    0,
     0xce00_0000, // byte 0xec, last round
-    0,
     0x5500_0000, // byte 0xed, last round
-    0,
     0x2800_0000, // byte 0xee, last round
-    0,
     0xdf00_0000, // byte 0xef, last round
-    0,
     0x8c00_0000, // byte 0xf0, last round
-    0,
     0xa100_0000, // byte 0xf1, last round
-    0,
     0x8900_0000, // byte 0xf2, last round
-    0,
     0x0d00_0000, // byte 0xf3, last round
-    0,
     0xbf00_0000, // byte 0xf4, last round
-    0,
     0xe600_0000, // byte 0xf5, last round
-    0,
     0x4200_0000, // byte 0xf6, last round
-    0,
     0x6800_0000, // byte 0xf7, last round
-    0,
     0x4100_0000, // byte 0xf8, last round
-    0,
     0x9900_0000, // byte 0xf9, last round
-    0,
     0x2d00_0000, // byte 0xfa, last round
-    0,
     0x0f00_0000, // byte 0xfb, last round
-    0,
     0xb000_0000, // byte 0xfc, last round
-    0,
     0x5400_0000, // byte 0xfd, last round
-    0,
     0xbb00_0000, // byte 0xfe, last round
-    0,
     0x1600_0000, // byte 0xff, last round
     0,
 ];
 
 // A constant array is copied to the stack wherever it is named, so a caller takes the table once and lends it from there.
-pub fn round_table() -> [u32; 1024]
+pub fn round_table() -> [u32; 769]
     ensures { λ r. ⌜ RoundTable r ⌝ }
 {
     ROUND_TABLE

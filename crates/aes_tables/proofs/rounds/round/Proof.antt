@@ -23,9 +23,9 @@ returns c =
     let t = a .t .now in
     let s = a .s in
     c .turned4 .ensures
-    ∙ ap (λ (x : State). turnedBy t x (s .c3))
+    ∙ ap (λ (x : State). turnedBy t (a .d) x (s .c3))
     (c .before .turned3 .ensures
-    ∙ ap (λ (x : State). turnedBy t x (s .c2)) (c .before .before .turned2 .ensures ∙ ap (λ (x : State). turnedBy t x (s .c1)) (c .before .before .before .turned .ensures)))
+    ∙ ap (λ (x : State). turnedBy t (a .d) x (s .c2)) (c .before .before .turned2 .ensures ∙ ap (λ (x : State). turnedBy t (a .d) x (s .c1)) (c .before .before .before .turned .ensures)))
 
 pub round-spec : {M : Type 1} → statement M
 round-spec = tie.close (tie.spec turned-requires turned-requires-2 turned-requires-3 turned-requires-4 returns)

@@ -31,7 +31,7 @@ cast-result-2 : tie.Need-cast-result-2
 cast-result-2 c = search needs
 
 returns : tie.Need-returns
-returns c = row-of (c .before .before .args .t .now) (c .before .before .args .r) (c .before .before .args .a) (c .entry .result) (search needs) (c .entry .ensures)
+returns c = row-of (c .before .before .args .t .now) (c .before .before .args .d) (c .before .before .args .r) (c .before .before .args .a) (c .entry .result) (search needs) (c .entry .ensures)
 
 pub row-spec : {M : Type 1} → statement M
 row-spec =

@@ -8,7 +8,7 @@
  * What a caller must see to, since nothing checks it:
  *  - each pointer is valid for its count of bytes (with a count of 0 the pointer is not followed and may be NULL), and a context's pointer
  *    is valid and aligned as its type asks;
- *  - the context is writable in every call, refused ones included: a refusal writes back the value that it held;
+ *  - the context is writable in every call, refused ones included: a refusal writes back the values that it held;
  *  - context, packet and outgoing buffer do not overlap in any part: no packet is protected or opened in place;
  *  - one call at a time uses a context;
  *  - no two senders are set up with one master key, master salt and SSRC, and no copy of a sender's struct is used beside it: both would

@@ -11,7 +11,7 @@ use Rattle.aes.specs.Cipher.{mixColumn, addRoundKey, roundKey, roundOf, lastRou
 use Rattle.aes.specs.Columns.{block}
 use Rattle.aes.specs.SBox.{sBox}
 use Rattle.aes.specs.declared.State.{State}
-use Rattle.octets.proofs.BigEndianLaws.{byte-is, byte-lt, byte-low, toBytes-xor}
+use Rattle.octets.proofs.BigEndianLaws.{byte-is, byte-lt, toBytes-xor}
 use Rattle.octets.proofs.XorLaws.{xor-assoc}
 use Rattle.octets.specs.BigEndian.{byte, toBytes}
 use Rattle.octets.specs.Xor.{xors}

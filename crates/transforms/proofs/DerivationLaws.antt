@@ -3,7 +3,7 @@ use mathlib.Core.List.{List, _++_}
 use mathlib.Core.Path.{_≡_, refl, sym, ap, ap₂, _∙_}
 use Prim.Native.Nat.{ℕ, zero, suc, _+_, _*_, _/_, _%_, _^_}
 use native.Mathlib.Nat.{zero-add}
-use lib.ListN.{length, take, drop, replicate, length-replicate}
+use lib.ListN.{length, take, replicate, length-replicate}
 use Rattle.aes.proofs.AesLaws.{cipher-is-aes}
 use Rattle.aes.specs.KeyExpansion.{keyExpansion}
 use Rattle.octets.specs.BigEndian.{Bytes, toBytes, fromBytes}

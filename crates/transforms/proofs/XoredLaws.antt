@@ -1,12 +1,12 @@
 -- A stream XORed into a buffer in place, part behind part. Assumes nothing.
-use mathlib.Core.List.{List, [], _∷_, _++_, append-assoc, append-nil}
+use mathlib.Core.List.{List, [], _∷_, _++_, append-assoc}
 use mathlib.Core.Path.{_≡_, refl, sym, ap, ap₂, _∙_}
-use Prim.Native.Nat.{ℕ, zero, suc, _+_, _-_, _^_, _<_, _≤_, min}
+use Prim.Native.Nat.{ℕ, zero, suc, _+_, _-_, _<_, _≤_, min}
 use native.Mathlib.Nat.{add-zero}
 use native.Mathlib.Omega.{arith}
 use lib.Bits.{bitXor, xor-zero-l}
-use lib.ListN.{length, take, drop, getD, replicate, length-append, length-drop, length-replicate, drop-of-length-le}
-use lib.Seq.{take-add, take-all, take-at, take-take, take-append-le, drop-append-le, drop-at, drop-drop, length-take-le, getD-drop}
+use lib.ListN.{length, take, drop, getD, replicate, length-append, length-drop}
+use lib.Seq.{take-add, take-all, take-take, take-append-le, drop-append-le, drop-at, drop-drop, length-take-le, getD-drop}
 use Rattle.octets.proofs.BigEndianLaws.{toBytes-xor}
 use Rattle.octets.proofs.BufferLaws.{over-whole, drop-over, overAt-append, overAt-part}
 use Rattle.octets.proofs.XorLaws.{length-xors, take-xors, drop-xors}

@@ -69,11 +69,14 @@ fn shifted_by_words(words: [u64; WORDS], count: usize) -> [u64; WORDS]
     out
 }
 
-// Shifted up by any distance.
+// Shifted up by any distance: in a stream in order by less than a word.
 pub fn shifted(words: [u64; WORDS], distance: u64) -> [u64; WORDS]
     requires { ⌜ distance < windowLength ⌝ }
     ensures { λ r. ⌜ r ≡ toWords (wordCount windowLength) (fromWords words * 2 ^ distance) ⌝ }
 {
+    if distance < 64 {
+        return shifted_by_bits(words, distance);
+    }
     let whole = shifted_by_words(words, (distance >> 6) as usize);
     shifted_by_bits(whole, distance & 63)
 }

@@ -133,7 +133,8 @@ impl Session {
         let profile = settings.profile;
         let integrity = profile.integrity;
         let keys = self.media;
-        let tag = transforms::media_tag(integrity, keys, &out[..n], index);
+        let mut tag = [0u8; 20];
+        transforms::media_tag(integrity, keys, &out[..n], index, &mut tag);
         let tag_len = profile.tag_len;
         settings.finish(&tag[..tag_len], n, out)
     }
@@ -156,7 +157,8 @@ impl Session {
         octets::store32(out, n, word);
         let end = n + 4;
         let keys = self.control;
-        let tag = transforms::control_tag(keys, &out[..end]);
+        let mut tag = [0u8; 20];
+        transforms::control_tag(keys, &out[..end], &mut tag);
         let tag_len = Profile::CONTROL_TAG_LEN;
         settings.finish(&tag[..tag_len], end, out)
     }

@@ -58,11 +58,11 @@ length-blockKey key = length-zeroFilled (cond (leb (length key) 64) key (sha1 ke
 length-pad : (key : List ℕ) (v : ℕ) → length (xors (blockKey key) (replicate 64 v)) ≡ 64
 length-pad key v = length-xors (blockKey key) (replicate 64 v) ∙ rw (length-blockKey key)
 
--- from the two pads of a key, and the hash values y and z to begin with
-pub key-made : (k i o : List ℕ) (y z s t : State) → i ≡ xors k ipad → o ≡ xors k opad → y ≡ initial → z ≡ initial →
-    s ≡ compress y i → t ≡ compress z o → record { inner = s; outer = t } ≡ keyState k
+-- from the two pads of a key
+pub key-made : (k i o : List ℕ) (s t : State) → i ≡ xors k ipad → o ≡ xors k opad → s ≡ compress initial i → t ≡ compress initial o
+    → record { inner = s; outer = t } ≡ keyState k
 unfolding keyState
-key-made k i o y z s t ei eo ey ez es et = rw (es, et, ey, ez, ei, eo)
+key-made k i o s t ei eo es et = rw (es, et, ei, eo)
 
 -- as the code has it, the message's second part being empty
 pub key-short : (key : List ℕ) → length key ≤ 64 → keyState (zeroFilled (key ++ [])) ≡ hmacKey key

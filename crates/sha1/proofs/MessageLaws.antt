@@ -5,14 +5,25 @@ use Prim.Native.Nat.{ℕ, zero, suc, _+_, _-_, _*_, _/_, _%_, _≤_, _<_}
 use native.Mathlib.Numerals.{add-one}
 use native.Mathlib.Nat.{add-zero, add-suc, sub-zero, zero-sub, suc-sub-suc}
 use native.Mathlib.Omega.{arith}
-use lib.ListN.{length, take, drop, set, replicate, length-append, length-drop, length-replicate, take-append-drop, drop-of-length-le, replicate-append-replicate}
+use lib.ListN.{length, getD, take, drop, set, replicate, length-append, length-drop, length-replicate, take-append-drop, drop-of-length-le, replicate-append-replicate}
 use lib.Seq.{take-all, take-append-le, drop-append-le, drop-drop, take-at, drop-at, length-take-le, set-at, drop-length}
 use Rattle.octets.specs.BigEndian.{toBytes}
 use Rattle.octets.specs.Buffer.{over, overAt}
-use Rattle.octets.proofs.BufferLaws.{length-over, length-overAt, overAt-over, overAt-part}
+use Rattle.octets.proofs.BufferLaws.{over-whole, length-overAt, overAt-over, overAt-part}
 use Rattle.sha1.specs.declared.State.{State}
 use Rattle.sha1.specs.Sha1.{padding, zeros, blockAt, compress, hashValue, hashAll, digestOf}
-use Rattle.sha1.specs.Parts.{zeroFilled, sha1After}
+use Rattle.sha1.specs.Parts.{wordsOf, zeroFilled, sha1After}
+
+-- ---- a hash value in place
+
+-- read
+pub words-read : (h : List ℕ) (s : State) → h ≡ wordsOf s → record { a = getD h 0 0; b = getD h 1 0; c = getD h 2 0; d = getD h 3 0; e = getD h 4 0 } ≡ s
+words-read h s e =
+    ap {B = State} (λ (l : List ℕ). record { a = getD l 0 0; b = getD l 1 0; c = getD l 2 0; d = getD l 3 0; e = getD l 4 0 }) e
+
+-- and written
+pub words-written : (h : List ℕ) (s r : State) → h ≡ wordsOf s → set (set (set (set (set h 0 (r .a)) 1 (r .b)) 2 (r .c)) 3 (r .d)) 4 (r .e) ≡ wordsOf r
+words-written h s r e = ap (λ (l : List ℕ). set (set (set (set (set l 0 (r .a)) 1 (r .b)) 2 (r .c)) 3 (r .d)) 4 (r .e)) e
 
 -- ---- blocks one after the other
 
@@ -87,24 +98,27 @@ drop-replicate n zero v = ap (λ (k : ℕ). replicate k v) (sym (sub-zero n))
 drop-replicate zero (suc i) v = ap (λ (k : ℕ). replicate k v) (sym (zero-sub (suc i)))
 drop-replicate (suc n) (suc i) v = drop-replicate n i v ∙ ap (λ (k : ℕ). replicate k v) (sym (suc-sub-suc n i))
 
--- a written over a block of zeros, and then b over the part behind it
-pub filled-parts : (a b d₁ d₂ : List ℕ) → length a ≤ 64 → d₁ ≡ over a (replicate 64 0) → d₂ ≡ over b (take (64 - length a) (drop (length a) d₁))
-    → take (length a) d₁ ++ (d₂ ++ drop (64 - length a) (drop (length a) d₁)) ≡ zeroFilled (a ++ b)
-unfolding over zeroFilled
-filled-parts a b d₁ d₂ l e₁ e₂ =
-    let n : length d₁ ≡ 64 = ap length e₁ ∙ length-over a (replicate 64 0) l in
-    ap (λ (x : List ℕ). take (length a) d₁ ++ (x ++ drop (64 - length a) (drop (length a) d₁))) e₂
-    ∙ overAt-part (length a) (64 - length a) b d₁ (omega arith)
+-- a written over the start of d, and then b over the part behind it
+pub filled-parts : (a b d d₁ d₂ : List ℕ) → d₁ ≡ over a d → d₂ ≡ over b (take (length d₁ - length a) (drop (length a) d₁))
+    → take (length a) d₁ ++ (d₂ ++ drop (length d₁ - length a) (drop (length a) d₁)) ≡ over (a ++ b) d
+filled-parts a b d d₁ d₂ e₁ e₂ =
+    ap (λ (x : List ℕ). take (length a) d₁ ++ (x ++ drop (length d₁ - length a) (drop (length a) d₁))) e₂
+    ∙ overAt-part (length a) (length d₁ - length a) b d₁ refl
     ∙ ap (overAt (length a) b) e₁
-    ∙ overAt-over (length a) a b (replicate 64 0) refl
-    ∙ ap (λ (z : List ℕ). (a ++ b) ++ z) (drop-replicate 64 (length (a ++ b)) 0)
+    ∙ overAt-over (length a) a b d refl
 
--- the first byte of the padding stored behind m
-pub stored-end : (m : List ℕ) (n : ℕ) → n ≡ length m → n < 64 → set (zeroFilled m) n 0x80 ≡ zeroFilled (m ++ (0x80 ∷ []))
+-- m written over a block of zeros
+pub filled-zeros : (m : List ℕ) → over m (replicate 64 0) ≡ zeroFilled m
+unfolding over zeroFilled
+filled-zeros m = ap (λ (z : List ℕ). m ++ z) (drop-replicate 64 (length m) 0)
+
+-- and the first byte of the padding behind it
+pub stored-end : (m d : List ℕ) (n : ℕ) → d ≡ over m (replicate 64 0) → n ≡ length m → n < 64 → set d n 0x80 ≡ zeroFilled (m ++ (0x80 ∷ []))
 unfolding zeroFilled
-stored-end m n e l =
+stored-end m d n f e l =
     let k : 64 - length m ≡ suc (64 - length (m ++ (0x80 ∷ []))) = omega (arith, length-append m (0x80 ∷ [])) in
-    rw (k, set-at m 0 (replicate (64 - length (m ++ (0x80 ∷ []))) 0) 0x80 n (sym e), append-assoc)
+    ap (λ (x : List ℕ). set x n 0x80) (f ∙ filled-zeros m)
+    ∙ rw (k, set-at m 0 (replicate (64 - length (m ++ (0x80 ∷ []))) 0) 0x80 n (sym e), append-assoc)
 
 -- ---- the rest of a message in parts, behind its whole blocks and behind the block that two parts share
 
@@ -199,31 +213,39 @@ at-start : (bs d : List ℕ) → overAt 0 bs d ≡ over bs d
 unfolding overAt over
 at-start bs d = refl
 
--- the five words of a hash value written one behind the other
-pub five-words : (h : State) (d d₁ d₂ d₃ d₄ d₅ : List ℕ) → d₁ ≡ overAt 0 (toBytes 4 (h .a)) d → d₂ ≡ overAt 4 (toBytes 4 (h .b)) d₁
-    → d₃ ≡ overAt 8 (toBytes 4 (h .c)) d₂ → d₄ ≡ overAt 12 (toBytes 4 (h .d)) d₃ → d₅ ≡ overAt 16 (toBytes 4 (h .e)) d₄ → d₅ ≡ over (digestOf h) d
+-- the words of a hash value written one behind the other, as h holds them
+pub five-words : (h : List ℕ) (s : State) (d d₁ d₂ d₃ d₄ d₅ : List ℕ) → h ≡ wordsOf s → d₁ ≡ overAt 0 (toBytes 4 (getD h 0 0)) d
+    → d₂ ≡ overAt 4 (toBytes 4 (getD h 1 0)) d₁ → d₃ ≡ overAt 8 (toBytes 4 (getD h 2 0)) d₂ → d₄ ≡ overAt 12 (toBytes 4 (getD h 3 0)) d₃
+    → d₅ ≡ overAt 16 (toBytes 4 (getD h 4 0)) d₄ → d₅ ≡ over (digestOf s) d
 unfolding digestOf
-five-words h d d₁ d₂ d₃ d₄ d₅ e₁ e₂ e₃ e₄ e₅ =
-    let a : List ℕ = toBytes 4 (h .a) in
-    let b : List ℕ = toBytes 4 (h .b) in
-    let c : List ℕ = toBytes 4 (h .c) in
-    e₅ ∙ ap (overAt 16 (toBytes 4 (h .e)))
-    (e₄ ∙ ap (overAt 12 (toBytes 4 (h .d)))
-    (e₃ ∙ ap (overAt 8 c) (e₂ ∙ ap (overAt 4 b) (e₁ ∙ at-start a d) ∙ overAt-over 4 a b d refl) ∙ overAt-over 8 (a ++ b) c d refl)
-    ∙ overAt-over 12 (a ++ b ++ c) (toBytes 4 (h .d)) d refl)
-    ∙ overAt-over 16 (a ++ b ++ c ++ toBytes 4 (h .d)) (toBytes 4 (h .e)) d refl
+five-words h s d d₁ d₂ d₃ d₄ d₅ e e₁ e₂ e₃ e₄ e₅ =
+    let w : List ℕ → ℕ → List ℕ = λ l k. toBytes 4 (getD l k 0) in
+    e₅ ∙ ap (overAt 16 (w h 4))
+    (e₄ ∙ ap (overAt 12 (w h 3))
+    (e₃ ∙ ap (overAt 8 (w h 2)) (e₂ ∙ ap (overAt 4 (w h 1)) (e₁ ∙ at-start (w h 0) d) ∙ overAt-over 4 (w h 0) (w h 1) d refl)
+    ∙ overAt-over 8 (w h 0 ++ w h 1) (w h 2) d refl)
+    ∙ overAt-over 12 (w h 0 ++ w h 1 ++ w h 2) (w h 3) d refl)
+    ∙ overAt-over 16 (w h 0 ++ w h 1 ++ w h 2 ++ w h 3) (w h 4) d refl
+    ∙ ap (λ (l : List ℕ). over (w l 0 ++ w l 1 ++ w l 2 ++ w l 3 ++ w l 4) d) e
 
-pub digest-alone : (h : State) (d : List ℕ) → d ≡ over (digestOf h) (replicate 20 0) → d ≡ digestOf h
-unfolding over digestOf
-digest-alone h d e = e
+-- a digest written where there is room for no more
+pub digest-alone : (s : State) (d d₁ : List ℕ) → length d ≡ 20 → d₁ ≡ over (digestOf s) d → d₁ ≡ digestOf s
+unfolding digestOf
+digest-alone s d d₁ l e =
+    let h : length d ≤ length (digestOf s) = omega arith in
+    e ∙ over-whole (digestOf s) d h
 
 -- a digest behind one block, with its padding
-pub digest-padded : (h : State) (d₁ d₂ : List ℕ) → d₁ ≡ over (digestOf h) (replicate 64 0) → d₂ ≡ overAt 56 (toBytes 8 (8 * 84)) (set d₁ 20 0x80)
-    → d₂ ≡ digestOf h ++ padding 84
+pub digest-padded : (s : State) (d₁ d₂ : List ℕ) → d₁ ≡ over (digestOf s) (replicate 64 0) → d₂ ≡ overAt 56 (toBytes 8 (8 * 84)) (set d₁ 20 0x80)
+    → d₂ ≡ digestOf s ++ padding 84
 unfolding overAt over digestOf padding
-digest-padded h d₁ d₂ e f = f ∙ ap (λ (l : List ℕ). overAt 56 (toBytes 8 (8 * 84)) (set l 20 0x80)) e
+digest-padded s d₁ d₂ e f = f ∙ ap (λ (l : List ℕ). overAt 56 (toBytes 8 (8 * 84)) (set l 20 0x80)) e
 
-pub digest-hashed : (h s r : State) (block : List ℕ) → block ≡ digestOf s ++ padding 84 → r ≡ compress h block → digestOf r ≡ sha1After h 64 (digestOf s)
-unfolding sha1After digestOf padding
-digest-hashed h s r block e f =
-    ap digestOf (f ∙ ap (compress h) e ∙ sym (hash-one h (digestOf s ++ padding 84) refl))
+-- is one block
+pub digest-hashed : (h s : State) → compress h (digestOf s ++ padding 84) ≡ hashAll h (digestOf s ++ padding 84)
+unfolding digestOf padding
+digest-hashed h s = sym (hash-one h (digestOf s ++ padding 84) refl)
+
+pub digest-after : (h s : State) → digestOf (hashAll h (digestOf s ++ padding 84)) ≡ sha1After h 64 (digestOf s)
+unfolding sha1After digestOf
+digest-after h s = refl

@@ -1,7 +1,7 @@
 -- What the contracts inside the crate speak of, beside the standard's own terms. Assumes nothing.
 use Prim.Native.Nat.{ℕ, _+_, _-_, _%_, _≤_, _<_}
 use mathlib.Core.Path.{_≡_}
-use mathlib.Core.List.{List, _++_}
+use mathlib.Core.List.{List, [], _∷_, _++_}
 use lib.ListN.{length, getD, replicate}
 use lib.Bits.{bitXor}
 use Rattle.sha1.specs.declared.State.{State}
@@ -16,6 +16,10 @@ Ring m t w = (length w ≡ 16) × ((k : ℕ) → k < t → t ≤ k + 16 → getD
 abbrev pub mixedIn : List ℕ → ℕ → ℕ
 mixedIn w i =
     rotl 1 (bitXor (bitXor (bitXor (getD w ((i + 13) % 16) 0) (getD w ((i + 8) % 16) 0)) (getD w ((i + 2) % 16) 0)) (getD w i 0))
+
+-- the five words of a hash value
+abbrev pub wordsOf : State → List ℕ
+wordsOf s = s .a ∷ s .b ∷ s .c ∷ s .d ∷ s .e ∷ []
 
 -- the block that begins with m, with zeros behind it
 unfoldable pub zeroFilled : List ℕ → List ℕ

@@ -5,7 +5,8 @@ ghost use mathlib.Core.List.{List};
 ghost use Prim.Native.Nat.{ℕ, _+_, _-_, _*_, _%_, _≤_, _<_};
 ghost use lib.ListN.{length};
 ghost use Rattle.sha1.specs.Sha1.{add, rotl, ch, parity, maj, ft, kt, schedule, round, rounds, sum, compress};
-ghost use Rattle.sha1.specs.Parts.{Ring, mixedIn};
+ghost use Rattle.sha1.specs.declared.State.{State};
+ghost use Rattle.sha1.specs.Parts.{Ring, mixedIn, wordsOf};
 use crate::State;
 
 fn add(x: u32, y: u32) -> u32
@@ -158,7 +159,7 @@ fn sum(s: State, h: State) -> State
 }
 
 // The hash value after the block `m`, from the one before, `h`.
-pub fn compress(h: State, m: &[u8]) -> State
+fn compress(h: State, m: &[u8]) -> State
     requires { ⌜ length (now m) ≡ 64 ⌝ }
     ensures { λ r. ⌜ r ≡ compress h (now (m .entry)) ⌝ }
 {
@@ -176,4 +177,17 @@ pub fn compress(h: State, m: &[u8]) -> State
     advance(&mut w); // W_64 to W_79
     let s = rounds(&w, 3, 64, 80, s);
     sum(s, h)
+}
+
+// The same in place. A hash value that is stored by words is read by words too: a copy of it whole would have to wait for them.
+pub fn compress_in(h: &mut [u32; 5], m: &[u8])
+    requires { ⌜ length (now m) ≡ 64 ⌝ }
+    ensures { λ _. ⌜ ((s : State) → now (h .entry) ≡ wordsOf s → now (h .exit) ≡ wordsOf (compress s (now (m .entry)))) ⌝ }
+{
+    let s = compress(State::of(h), m);
+    h[0] = s.a;
+    h[1] = s.b;
+    h[2] = s.c;
+    h[3] = s.d;
+    h[4] = s.e;
 }

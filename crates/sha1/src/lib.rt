@@ -4,7 +4,9 @@ ghost use mathlib.Core.List.{_++_};
 ghost use Prim.Native.Nat.{_+_, _*_, _^_, _<_};
 ghost use lib.ListN.{length, replicate};
 ghost use Rattle.octets.specs.Xor.{xors};
-ghost use Rattle.sha1.specs.Sha1.{initial, sha1};
+ghost use Rattle.sha1.specs.declared.State.{State};
+ghost use Rattle.sha1.specs.Sha1.{initial, compress, sha1};
+ghost use Rattle.sha1.specs.Parts.{wordsOf};
 ghost use Rattle.sha1.specs.Hmac.{keyState, hmacKey, hmacWith};
 
 mod block;
@@ -18,6 +20,28 @@ pub struct State {
     pub c: u32,
     pub d: u32,
     pub e: u32,
+}
+
+impl State {
+    // Its words.
+    fn words(self) -> [u32; 5]
+        ensures { λ r. ⌜ r ≡ wordsOf self ⌝ }
+    {
+        [self.a, self.b, self.c, self.d, self.e]
+    }
+
+    // The hash value with these words.
+    fn of(h: &[u32; 5]) -> State
+        ensures { λ r. ⌜ ((s : State) → now (h .entry) ≡ wordsOf s → r ≡ s) ⌝ }
+    {
+        State {
+            a: h[0],
+            b: h[1],
+            c: h[2],
+            d: h[3],
+            e: h[4],
+        }
+    }
 }
 
 // The initial hash value.
@@ -38,7 +62,12 @@ pub fn digest(a: &[u8], b: &[u8]) -> [u8; 20]
     requires { ⌜ 8 * (length (now a) + length (now b)) < 2 ^ 64 ⌝ }
     ensures { λ r. ⌜ r ≡ sha1 (now (a .entry) ++ now (b .entry)) ⌝ }
 {
-    message::digest_after(initial(), 0, a, b)
+    let first = initial();
+    let mut h = first.words();
+    message::hash_after(&mut h, 0, a, b);
+    let mut d = [0u8; 20];
+    message::put_digest(&h, &mut d);
+    d
 }
 
 // What the key alone decides of HMAC: the hash values after its inner and its outer block (RFC 2104, section 4).
@@ -58,15 +87,26 @@ fn xor_pad(k: [u8; 64], v: u8) -> [u8; 64]
     d
 }
 
+// The hash value after a message's first block.
+fn after_first(m: [u8; 64]) -> State
+    ensures { λ r. ⌜ r ≡ compress initial m ⌝ }
+{
+    let first = initial();
+    let mut h = first.words();
+    block::compress_in(&mut h, &m);
+    State::of(&h)
+}
+
 // The state of a key that has been brought to a block's length.
 fn key_state(k: [u8; 64]) -> HmacKey
     ensures { λ r. ⌜ r ≡ keyState k ⌝ }
 {
     let i = xor_pad(k, 0x36);
     let o = xor_pad(k, 0x5c);
-    let inner = block::compress(initial(), &i);
-    let outer = block::compress(initial(), &o);
-    HmacKey { inner, outer }
+    HmacKey {
+        inner: after_first(i),
+        outer: after_first(o),
+    }
 }
 
 // The state of a key of any length: one of over 64 bytes is hashed first, so it is shorter than 2^64 bits.
@@ -83,12 +123,16 @@ pub fn hmac_key(key: &[u8]) -> HmacKey
     key_state(k)
 }
 
-// The HMAC of `a` followed by `b`, with the key whose state is `key`. With the key's block the message is shorter than 2^64 bits.
-pub fn hmac(key: HmacKey, a: &[u8], b: &[u8]) -> [u8; 20]
+// Writes the HMAC of `a` followed by `b`, with the key whose state is `key`, to `d`. With the key's block the message is shorter than 2^64 bits.
+pub fn hmac(key: HmacKey, a: &[u8], b: &[u8], d: &mut [u8; 20])
     requires { ⌜ 8 * (64 + (length (now a) + length (now b))) < 2 ^ 64 ⌝ }
-    ensures { λ r. ⌜ r ≡ hmacWith key (now (a .entry) ++ now (b .entry)) ⌝ }
+    ensures { λ _. ⌜ now (d .exit) ≡ hmacWith key (now (a .entry) ++ now (b .entry)) ⌝ }
 {
     let inner = key.inner;
+    let mut h = inner.words();
+    message::hash_after(&mut h, 64, a, b);
     let outer = key.outer;
-    message::digest_of_digest(outer, message::hash_after(inner, 64, a, b))
+    let mut o = outer.words();
+    message::hash_digest(&mut o, &h);
+    message::put_digest(&o, d);
 }

@@ -89,7 +89,8 @@ fn is_media_tag(
     ensures { λ r. ⌜ r ≡ same (now (tag .entry)) (integrityTag (profile .integrity) (profile .«tag_len») keys (now (authenticated .entry)) index) ⌝ }
 {
     let integrity = profile.integrity;
-    let whole = transforms::media_tag(integrity, keys, authenticated, index);
+    let mut whole = [0u8; 20];
+    transforms::media_tag(integrity, keys, authenticated, index, &mut whole);
     let n = profile.tag_len;
     octets::same(tag, &whole[..n])
 }
@@ -99,7 +100,8 @@ fn is_control_tag(keys: SessionKeys, authenticated: &[u8], tag: &[u8]) -> bool
     requires { ⌜ length (now authenticated) ≤ 2052 ⌝ }
     ensures { λ r. ⌜ r ≡ same (now (tag .entry)) (controlTag 10 keys (now (authenticated .entry))) ⌝ }
 {
-    let whole = transforms::control_tag(keys, authenticated);
+    let mut whole = [0u8; 20];
+    transforms::control_tag(keys, authenticated, &mut whole);
     let n = Profile::CONTROL_TAG_LEN;
     octets::same(tag, &whole[..n])
 }

@@ -1,7 +1,7 @@
 -- Laws of RFC 4771's tag: twenty bytes of it, and their beginnings. Assumes nothing.
 use mathlib.Core.Bool.{Bool, true, false}
 use mathlib.Core.List.{List, _++_}
-use mathlib.Core.Path.{_≡_, refl, sym, ap, _∙_}
+use mathlib.Core.Path.{_≡_, refl, sym, ap, ap₂, _∙_}
 use Prim.Native.Nat.{ℕ, _+_, _-_, _%_, _^_, _≤_}
 use native.Mathlib.Omega.{arith}
 use borrow.Author.Tests.{ne-eqb}
@@ -11,7 +11,7 @@ use lib.Seq.{take-append-add, take-at, length-take-le}
 use Rattle.octets.specs.BigEndian.{toBytes, fromBytes}
 use Rattle.octets.specs.Buffer.{over, overAt}
 use Rattle.octets.proofs.BigEndianLaws.{length-toBytes, from-toBytes}
-use Rattle.octets.proofs.BufferLaws.{length-over, over-whole, overAt-over, overAt-part}
+use Rattle.octets.proofs.BufferLaws.{over-whole, overAt-over, overAt-part}
 use Rattle.transforms.specs.Tag.{rolloverCounter, numberOf, mediaTag}
 use Rattle.transforms.specs.Rcc.{carriesCounter, tagWith, integrityTag, carriedCounter}
 use Rattle.transforms.specs.declared.SessionKeys.{SessionKeys}
@@ -23,23 +23,19 @@ use Rattle.transforms.proofs.TagLaws.{length-mediaTag, take-mediaTag}
 pub carries-at : (rate number : ℕ) (t : Integrity) → t ≡ Rccm2 rate → (rate ≡ 0 → ⊥) → eqb (number % rate) 0 ≡ carriesCounter t number
 carries-at rate number t e h = rw (e, ne-eqb rate 0 h)
 
--- ---- with_counter: the counter written over twenty zeros, and the MAC behind it
-pub counter-joined : (v : ℕ) (m d w : List ℕ) → length m ≡ 20 → d ≡ overAt 0 (toBytes 4 v) (replicate 20 0)
-    → w ≡ over (take 16 m) (take 16 (drop 4 d)) → take 4 d ++ (w ++ drop 16 (drop 4 d)) ≡ toBytes 4 v ++ take 16 m
+-- ---- put_counter: the counter written over the MAC's start, and the MAC's first sixteen bytes, kept in x, behind it
+pub counter-joined : (v : ℕ) (m x d w : List ℕ) → length m ≡ 20 → x ≡ over (take 16 m) (replicate 16 0) → d ≡ overAt 0 (toBytes 4 v) m
+    → w ≡ over x (take (length d - 4) (drop 4 d)) → take 4 d ++ (w ++ drop (length d - 4) (drop 4 d)) ≡ toBytes 4 v ++ take 16 m
 unfolding overAt
-counter-joined v m d w l e f =
-    let z : List ℕ = replicate 20 0 in
+counter-joined v m x d w l ex e f =
     let t : List ℕ = toBytes 4 v in
-    let x : List ℕ = take 16 m in
     let lt : length t ≡ 4 = length-toBytes 4 v in
-    let lx : length x ≡ 16 = length-take-le 16 m (omega arith) in
-    let lz : length z ≡ 20 = length-replicate {A = ℕ} 20 0 in
-    let ld : length d ≡ 20 = ap length e ∙ length-over t z (omega arith) ∙ lz in
-    ap (λ (y : List ℕ). take 4 d ++ (y ++ drop 16 (drop 4 d))) f
-    ∙ overAt-part 4 16 x d (omega arith)
-    ∙ ap (overAt 4 x) e
-    ∙ overAt-over 4 t x z (sym lt)
-    ∙ over-whole (t ++ x) z (omega (arith, length-append t x))
+    let lx : length (take 16 m) ≡ 16 = length-take-le 16 m (omega arith) in
+    ap (λ (y : List ℕ). take 4 d ++ (y ++ drop (length d - 4) (drop 4 d))) f
+    ∙ overAt-part 4 (length d - 4) x d refl
+    ∙ ap₂ (overAt 4) (ex ∙ over-whole (take 16 m) (replicate 16 0) (omega (arith, length-replicate {A = ℕ} 16 0))) e
+    ∙ overAt-over 4 t (take 16 m) m (sym lt)
+    ∙ over-whole (t ++ take 16 m) m (omega (arith, length-append t (take 16 m)))
 
 -- ---- media_tag
 module _ (t : Integrity) (k : SessionKeys) (a : List ℕ) (i : ℕ) (w : List ℕ) (e : w ≡ mediaTag 20 k a i) (b : Bool)

@@ -9,15 +9,15 @@ ghost use Rattle.transforms.specs.Rcc.{carriesCounter, integrityTag};
 use crate::Integrity;
 use crate::SessionKeys;
 
-// RFC 3711's, of the media packet with this index. The rollover counter behind the packet is that of the index, and no other can be given.
-fn mac(keys: SessionKeys, authenticated: &[u8], index: u64) -> [u8; 20]
+// Writes RFC 3711's, of the media packet with this index. The rollover counter behind the packet is that of the index, and no other can be given.
+fn mac(keys: SessionKeys, authenticated: &[u8], index: u64, tag: &mut [u8; 20])
     requires { ⌜ (length (now authenticated) < 2 ^ 60) × (index < 2 ^ 48) ⌝ }
-    ensures { λ r. ⌜ r ≡ mediaTag 20 keys (now (authenticated .entry)) index ⌝ }
+    ensures { λ _. ⌜ now (tag .exit) ≡ mediaTag 20 keys (now (authenticated .entry)) index ⌝ }
 {
     let k = keys.tag;
     let mut counter = [0u8; 4];
     octets::store32(&mut counter, 0, (index >> 16) as u32);
-    sha1::hmac(k, authenticated, &counter)
+    sha1::hmac(k, authenticated, &counter, tag);
 }
 
 impl Integrity {
@@ -35,40 +35,40 @@ impl Integrity {
     }
 }
 
-// The rollover counter of the index, and behind it the MAC as far as twenty bytes reach.
-fn with_counter(mac: [u8; 20], index: u64) -> [u8; 20]
-    requires { ⌜ index < 2 ^ 48 ⌝ }
-    ensures { λ r. ⌜ r ≡ toBytes 4 (rolloverCounter index) ++ take 16 mac ⌝ }
+// Puts the rollover counter of the index before the MAC, which stays as far as twenty bytes reach.
+fn put_counter(index: u64, tag: &mut [u8])
+    requires { ⌜ (index < 2 ^ 48) × (length (now tag) ≡ 20) ⌝ }
+    ensures { λ _. ⌜ now (tag .exit) ≡ toBytes 4 (rolloverCounter index) ++ take 16 (now (tag .entry)) ⌝ }
 {
-    let mut tag = [0u8; 20];
-    octets::store32(&mut tag, 0, (index >> 16) as u32);
-    octets::copy_over(&mac[..16], &mut tag[4..]);
-    tag
+    let mut mac = [0u8; 16];
+    octets::copy_over(&tag[..16], &mut mac);
+    octets::store32(tag, 0, (index >> 16) as u32);
+    octets::copy_over(&mac, &mut tag[4..]);
 }
 
-// Of the media packet with this index. Whether it carries the rollover counter is a matter of its sequence number.
+// Writes that of the media packet with this index. Whether it carries the rollover counter is a matter of its sequence number.
 pub fn media_tag(
     integrity: Integrity,
     keys: SessionKeys,
     authenticated: &[u8],
     index: u64,
-) -> [u8; 20]
+    tag: &mut [u8; 20],
+)
     requires { ⌜ (length (now authenticated) < 2 ^ 60) × (index < 2 ^ 48) ⌝ }
-    ensures { λ r. ⌜ r ≡ integrityTag integrity 20 keys (now (authenticated .entry)) index ⌝ }
+    ensures { λ _. ⌜ now (tag .exit) ≡ integrityTag integrity 20 keys (now (authenticated .entry)) index ⌝ }
 {
-    let whole = mac(keys, authenticated, index);
+    mac(keys, authenticated, index, tag);
     let number = (index % 0x1_0000) as u16;
     if integrity.carries(number) {
-        return with_counter(whole, index);
+        put_counter(index, tag);
     }
-    whole
 }
 
-// Of a control packet.
-pub fn control_tag(keys: SessionKeys, authenticated: &[u8]) -> [u8; 20]
+// Writes that of a control packet.
+pub fn control_tag(keys: SessionKeys, authenticated: &[u8], tag: &mut [u8; 20])
     requires { ⌜ length (now authenticated) < 2 ^ 60 ⌝ }
-    ensures { λ r. ⌜ r ≡ controlTag 20 keys (now (authenticated .entry)) ⌝ }
+    ensures { λ _. ⌜ now (tag .exit) ≡ controlTag 20 keys (now (authenticated .entry)) ⌝ }
 {
     let k = keys.tag;
-    sha1::hmac(k, authenticated, b"")
+    sha1::hmac(k, authenticated, b"", tag);
 }

@@ -40,6 +40,7 @@ fn long_keys() {
 fn case(name: &[u8], key: &[u8], text: &[u8])
     requires { ⌜ (length (now key) ≤ 2048) × (length (now text) ≤ 2048) ⌝ }
 {
-    let d = sha1::hmac(sha1::hmac_key(key), text, b"");
+    let mut d = [0u8; 20];
+    sha1::hmac(sha1::hmac_key(key), text, b"", &mut d);
     hex::print_bytes(name, &d);
 }

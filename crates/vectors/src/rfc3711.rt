@@ -115,7 +115,8 @@ fn protect_media(keys: SessionKeys, packet: &mut [u8])
     requires { ⌜ length (now packet) ≡ 28 ⌝ }
 {
     transforms::encipher(Cipher::Aes, keys, 0xcafe_babe, 0x1234, 0, &mut packet[12..]);
-    let tag = transforms::media_tag(Integrity::HmacSha1, keys, packet, 0x1234);
+    let mut tag = [0u8; 20];
+    transforms::media_tag(Integrity::HmacSha1, keys, packet, 0x1234, &mut tag);
     print_packet(b"protected RTP ", packet, tag);
 }
 
@@ -136,7 +137,8 @@ fn protect_control(keys: SessionKeys, packet: &mut [u8])
     requires { ⌜ length (now packet) ≡ 28 ⌝ }
 {
     transforms::encipher(Cipher::Aes, keys, 0xcafe_babe, 0, 0, &mut packet[8..24]);
-    let tag = transforms::control_tag(keys, packet);
+    let mut tag = [0u8; 20];
+    transforms::control_tag(keys, packet, &mut tag);
     print_packet(b"protected RTCP ", packet, tag);
 }
 

@@ -1,13 +1,14 @@
 use mathlib.Core.Bool.{Bool}
 use mathlib.Core.Path.{_∙_, ap, _≡_}
 use native.Mathlib.Omega.{arith}
-use borrow.Author.Needs.{needs}
 use lib.ListN.{length-take, length}
 use denote.Ref.{now}
 use Rattle.octets.specs.Buffer.{over}
 use Rattle.rtp.specs.Protected.{indexWord}
 use Rattle.session.specs.Packets.{encrypts, cipherOf, cipheredControl}
+use Rattle.transforms.proofs.TagLaws.{length-controlTag}
 use Rattle.session.proofs.PacketReturns.{control-written}
+use borrow.Author.Needs.{needs}
 use Rattle.session.proofs.Session.protect_control.Statement.{statement}
 use Rattle.session.proofs.Session.protect_control.Tie as tie
 
@@ -43,25 +44,26 @@ control-tag-requires : tie.Need-control-tag-requires
 control-tag-requires c κs = simp length-take (omega arith)
 
 array-share-prefix-tag : tie.Need-array-share-prefix-tag
-array-share-prefix-tag c = search needs
+array-share-prefix-tag c = let l : length (c .control-tag .last .1 .1 .0) ≡ 20 = ap length (c .control-tag .ensures) ∙ length-controlTag 20 _ _ (omega arith) in omega (arith, c .before .before .before .before .before .before .before .before .before .before .before .before .before .before .before .before .before .before .pre)
 
 slice-aggregate-finish : tie.Need-slice-aggregate-finish
-slice-aggregate-finish c = simp length-take (omega (arith, c .before .before .before .before .before .before .before .before .before .before .before .before .before .before .before .before .before .before .pre))
+slice-aggregate-finish c = let l : length (c .before .control-tag .last .1 .1 .0) ≡ 20 = ap length (c .before .control-tag .ensures) ∙ length-controlTag 20 _ _ (omega arith) in simp length-take (omega (arith, c .before .before .before .before .before .before .before .before .before .before .before .before .before .before .before .before .before .before .before .pre))
 
 finish-requires : tie.Need-finish-requires
-finish-requires c κs = simp length-take (omega (arith, c .before .before .before .before .before .before .before .before .before .before .before .before .before .before .before .before .before .before .before .pre))
+finish-requires c κs = let l : length (c .before .before .control-tag .last .1 .1 .0) ≡ 20 = ap length (c .before .before .control-tag .ensures) ∙ length-controlTag 20 _ _ (omega arith) in simp length-take (omega (arith, c .before .before .before .before .before .before .before .before .before .before .before .before .before .before .before .before .before .before .before .before .pre))
 
 same-length : tie.Need-same-length
 same-length c = search needs
 
 returns : tie.Need-returns
-returns c = let s = c .before .before .before .before .before .before .before .before .before .before .before .before .before .before .before .before .before .before .before .before .before .before in
+returns c =
+    let s = c .before .before .before .before .before .before .before .before .before .before .before .before .before .before .before .before .before .before .before .before .before .before .before in
     let a = s .args in
-    let x = c .before .before .before .before .before .before .before .before .before .before .before .before .before .before .before .before .before .encrypts .ensures in
+    let x = c .before .before .before .before .before .before .before .before .before .before .before .before .before .before .before .before .before .before .encrypts .ensures in
     control-written (a .self) _ _ _ _ _ _ _ (mki-long s) (s .pre .1 .0) (encrypts (cipherOf (a .self))) _ _
-    (c .before .before .before .before .before .before .before .before .before .before .before .before .before .before .before .cipher-control .ensures ∙ ap (λ (e : Bool). over (cipheredControl (a .self) e (now (a .packet)) (a .index)) (now (a .out))) x)
-    (c .before .before .before .before .before .before .before .before .before .before .before .before .index-word .ensures ∙ ap (λ (e : Bool). indexWord e (a .index)) x)
-    (c .before .before .before .before .before .before .before .before .before .before .store32 .ensures) (c .before .before .before .before .before .control-tag .ensures) (c .before .before .finish .ensures .1, c .before .before .finish .ensures .0)
+    (c .before .before .before .before .before .before .before .before .before .before .before .before .before .before .before .before .cipher-control .ensures ∙ ap (λ (e : Bool). over (cipheredControl (a .self) e (now (a .packet)) (a .index)) (now (a .out))) x)
+    (c .before .before .before .before .before .before .before .before .before .before .before .before .before .index-word .ensures ∙ ap (λ (e : Bool). indexWord e (a .index)) x)
+    (c .before .before .before .before .before .before .before .before .before .before .before .store32 .ensures) (c .before .before .before .before .before .control-tag .ensures) (c .before .before .finish .ensures .1, c .before .before .finish .ensures .0)
 
 pub protect-control-spec : {M : Type 1} → statement M
 protect-control-spec =

@@ -1,8 +1,9 @@
-use mathlib.Core.Path.{_≡_}
+use mathlib.Core.Path.{_≡_, ap, _∙_}
 use native.Mathlib.Omega.{arith}
-use borrow.Author.Needs.{needs}
 use lib.ListN.{length-take, length}
+use Rattle.transforms.proofs.RccLaws.{length-integrityTag}
 use Rattle.session.proofs.PacketReturns.{media-written}
+use borrow.Author.Needs.{needs}
 use Rattle.session.proofs.Session.protect_media.Statement.{statement}
 use Rattle.session.proofs.Session.protect_media.Tie as tie
 
@@ -23,22 +24,22 @@ media-tag-requires : tie.Need-media-tag-requires
 media-tag-requires c κs = simp length-take (omega arith)
 
 array-share-prefix-tag : tie.Need-array-share-prefix-tag
-array-share-prefix-tag c = search needs
+array-share-prefix-tag c = let l : length (c .media-tag .last .1 .1 .1 .1 .0) ≡ 20 = ap length (c .media-tag .ensures) ∙ length-integrityTag 20 _ _ _ (omega arith) (omega arith) _ in omega (arith, c .before .before .before .before .before .before .before .before .before .before .before .before .pre)
 
 slice-aggregate-finish : tie.Need-slice-aggregate-finish
-slice-aggregate-finish c = simp length-take (omega (arith, c .before .before .before .before .before .before .before .before .before .before .before .before .pre))
+slice-aggregate-finish c = let l : length (c .before .media-tag .last .1 .1 .1 .1 .0) ≡ 20 = ap length (c .before .media-tag .ensures) ∙ length-integrityTag 20 _ _ _ (omega arith) (omega arith) _ in simp length-take (omega (arith, c .before .before .before .before .before .before .before .before .before .before .before .before .before .pre))
 
 finish-requires : tie.Need-finish-requires
-finish-requires c κs = simp length-take (omega (arith, c .before .before .before .before .before .before .before .before .before .before .before .before .before .pre))
+finish-requires c κs = let l : length (c .before .before .media-tag .last .1 .1 .1 .1 .0) ≡ 20 = ap length (c .before .before .media-tag .ensures) ∙ length-integrityTag 20 _ _ _ (omega arith) (omega arith) _ in simp length-take (omega (arith, c .before .before .before .before .before .before .before .before .before .before .before .before .before .before .pre))
 
 same-length : tie.Need-same-length
 same-length c = search needs
 
 returns : tie.Need-returns
 returns c =
-    let s = c .before .before .before .before .before .before .before .before .before .before .before .before .before .before .before .before in
+    let s = c .before .before .before .before .before .before .before .before .before .before .before .before .before .before .before .before .before in
     media-written (s .args .self) _ _ _ _ _ _ _ (mki-long s) (s .pre .1 .1 .0 .0) (omega (arith, s .pre .1 .1 .0)) (omega (arith, s .pre .1 .1 .0))
-    (c .before .before .before .before .before .before .before .before .before .before .before .before .cipher-media .ensures)
+    (c .before .before .before .before .before .before .before .before .before .before .before .before .before .cipher-media .ensures)
     (c .before .before .before .before .before .media-tag .ensures)
     (c .before .before .finish .ensures .1, c .before .before .finish .ensures .0)
 

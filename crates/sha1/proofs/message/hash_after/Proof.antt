@@ -1,9 +1,9 @@
-use mathlib.Core.Path.{sym, ap, _∙_}
+use mathlib.Core.Path.{refl, sym, ap, _∙_}
 use mathlib.Core.List.{_++_}
 use Prim.Native.Nat.{ℕ, _+_}
 use lib.ListN.{length, length-append}
-use Rattle.sha1.specs.Sha1.{padding, hashAll, digestOf}
-use Rattle.sha1.specs.Parts.{sha1After}
+use Rattle.sha1.specs.Sha1.{padding, hashAll}
+use Rattle.sha1.specs.Parts.{wordsOf}
 use Rattle.sha1.proofs.MessageLaws.{hash-rest}
 use borrow.Author.Needs.{needs}
 use Rattle.sha1.proofs.message.hash_after.Statement.{statement}
@@ -34,13 +34,13 @@ rest-in-parts-requires : tie.Need-rest-in-parts-requires
 rest-in-parts-requires c κs = search needs
 
 returns : tie.Need-returns
-unfolding sha1After
-returns c =
-    let x = c .before .before .before .before .before .args in
+returns c s e =
+    let x = c .before .before .before .before .before .before .before .args in
     let a = x .a .now in
     let b = x .b .now in
-    ap digestOf (c .rest-in-parts .ensures ∙ hash-rest (x .h) _ a b (padding (x .before + (length a + length b))) (c .before .before .whole-blocks .ensures)
-    ∙ ap (λ (n : ℕ). hashAll (x .h) ((a ++ b) ++ padding (x .before + n))) (sym (length-append a b)))
+    c .rest-in-parts .ensures (hashAll s a) (c .before .before .before .whole-blocks .ensures s e)
+    ∙ ap wordsOf (hash-rest s _ a b (padding (x .before + (length a + length b))) refl
+    ∙ ap (λ (n : ℕ). hashAll s ((a ++ b) ++ padding (x .before + n))) (sym (length-append a b)))
 
 pub hash-after-spec : {M : Type 1} → statement M
 hash-after-spec =

@@ -2,68 +2,76 @@
 use mathlib.Core.Path.{_≡_, sym, ap, _∙_}
 use mathlib.Core.Logic.{⊎-elim}
 use mathlib.Core.List.{_++_}
-use Prim.Native.Nat.{_<_, _≤_, _%_}
+use Prim.Native.Nat.{_+_, _<_, _≤_, _%_}
 use native.Mathlib.Omega.{arith}
-use borrow.Author.Needs.{needs}
 use lib.ListN.{length, length-append}
-use Rattle.sha1.proofs.MessageLaws.{length-last, length-ended, hash-last, hash-last-two}
+use Rattle.sha1.specs.Parts.{wordsOf}
+use Rattle.sha1.proofs.MessageLaws.{stored-end, length-last, length-ended, hash-last, hash-last-two}
+use borrow.Author.Needs.{needs}
 use Rattle.sha1.proofs.message.last_blocks.Statement.{statement}
 use Rattle.sha1.proofs.message.last_blocks.Tie as tie
 
-ended-requires : tie.Need-ended-requires
-ended-requires c κs = search needs
+slice-aggregate-fill : tie.Need-slice-aggregate-fill
+slice-aggregate-fill c = search needs
+
+fill-requires : tie.Need-fill-requires
+fill-requires c κs = search needs
 
 add-used : tie.Need-add-used
 add-used c = search needs
 
-slice-aggregate-compress : tie.Need-slice-aggregate-compress
-slice-aggregate-compress c = search needs
+array-write-block : tie.Need-array-write-block
+array-write-block c = search needs
 
-compress-requires : tie.Need-compress-requires
-compress-requires c κs = search needs
+slice-aggregate-compress-in : tie.Need-slice-aggregate-compress-in
+slice-aggregate-compress-in c = search needs
+
+compress-in-requires : tie.Need-compress-in-requires
+compress-in-requires c κs = search needs
 
 set-length-requires : tie.Need-set-length-requires
 set-length-requires c κs = search needs
 
-slice-aggregate-compress-2 : tie.Need-slice-aggregate-compress-2
-slice-aggregate-compress-2 c =
-    let x = c .before .before .before .before .before .before .before .args in
+slice-aggregate-compress-in-2 : tie.Need-slice-aggregate-compress-in-2
+slice-aggregate-compress-in-2 c =
+    let x = c .before .before .before .before .before .before .before .before .before .before .args in
     let m = x .a .now ++ x .b .now in
+    let f = stored-end m _ (length (x .a .now) + length (x .b .now)) (c .before .before .before .before .before .before .fill .ensures) (sym (length-append (x .a .now) (x .b .now))) (omega arith) in
     let l : length m < 64 = omega (arith, length-append (x .a .now) (x .b .now)) in
-    let j = c .before .before .before .if1 in
-    let k : length (j .block) ≡ 64 =
-    ⊎-elim (λ w. ap length (w .3)) (λ w. ap length (w .1 ∙ c .before .before .before .before .ended .ensures) ∙ length-ended m l) (j .came) in
-    sym (ap length (c .before .set-length .ensures) ∙ length-last (x .n) (j .block) k)
+    let j = c .before .before .before .before .if1 in
+    let k : length (j .block) ≡ 64 = ⊎-elim (λ w. ap length (w .5)) (λ w. ap length (w .2 ∙ f) ∙ length-ended m l) (j .came) in
+    sym (ap length (c .before .before .set-length .ensures) ∙ length-last (x .n) (j .block) k)
 
-compress-requires-2 : tie.Need-compress-requires-2
-compress-requires-2 c κs = sym (slice-aggregate-compress-2 c)
+compress-in-requires-2 : tie.Need-compress-in-requires-2
+compress-in-requires-2 c κs = sym (slice-aggregate-compress-in-2 c)
 
 returns : tie.Need-returns
-returns c =
-    let x = c .before .before .before .before .before .before .before .before .args in
+returns c s e =
+    let x = c .before .before .before .before .before .before .before .before .before .before .before .args in
     let m = x .a .now ++ x .b .now in
-    let e : length m ≡ x .n % 64 = omega (arith, length-append (x .a .now) (x .b .now)) in
-    let f = c .before .before .before .before .before .ended .ensures in
-    let j = c .before .before .before .before .if1 in
-    c .compress2 .ensures ∙ rw (c .before .before .set-length .ensures)
-    (⊎-elim
+    let r : length m ≡ x .n % 64 = omega (arith, length-append (x .a .now) (x .b .now)) in
+    let f = stored-end m _ (length (x .a .now) + length (x .b .now)) (c .before .before .before .before .before .before .before .fill .ensures) (sym (length-append (x .a .now) (x .b .now))) (omega arith) in
+    let g = c .before .before .before .set-length .ensures in
+    ⊎-elim
     (λ w.
     let l : 56 ≤ length m = omega (arith, length-append (x .a .now) (x .b .now)) in
-    rw (w .3, w .4, w .2 .ensures, f) (hash-last-two (x .h) m (x .n) e l))
+    c .compress-in2 .ensures _ (w .4 ∙ w .3 .ensures s e) ∙ ap wordsOf (rw (g, w .5, f) (hash-last-two s m (x .n) r l)))
     (λ w.
     let l : length m < 56 = omega (arith, length-append (x .a .now) (x .b .now)) in
-    rw (w .1, w .2, f) (hash-last (x .h) m (x .n) e l))
-    (j .came))
+    c .compress-in2 .ensures s (w .1 ∙ e) ∙ ap wordsOf (rw (g, w .2, f) (hash-last s m (x .n) r l)))
+    (c .before .before .before .before .before .if1 .came)
 
 pub last-blocks-spec : {M : Type 1} → statement M
 last-blocks-spec =
     tie.close
     (tie.spec
-    ended-requires
+    slice-aggregate-fill
+    fill-requires
     add-used
-    slice-aggregate-compress
-    compress-requires
+    array-write-block
+    slice-aggregate-compress-in
+    compress-in-requires
     set-length-requires
-    slice-aggregate-compress-2
-    compress-requires-2
+    slice-aggregate-compress-in-2
+    compress-in-requires-2
     returns)

@@ -1,9 +1,10 @@
-use mathlib.Core.Path.{ap, _∙_}
+use mathlib.Core.Path.{refl, ap, _∙_}
 use mathlib.Core.List.{List, [], _++_, append-nil}
 use Prim.Native.Nat.{ℕ}
-use borrow.Author.Needs.{needs}
 use Rattle.sha1.specs.Sha1.{padding, hashAll}
+use Rattle.sha1.specs.Parts.{wordsOf}
 use Rattle.sha1.proofs.MessageLaws.{hash-rest}
+use borrow.Author.Needs.{needs}
 use Rattle.sha1.proofs.message.rest.Statement.{statement}
 use Rattle.sha1.proofs.message.rest.Tie as tie
 
@@ -29,10 +30,11 @@ last-blocks-requires : tie.Need-last-blocks-requires
 last-blocks-requires c κs = search needs
 
 returns : tie.Need-returns
-returns c =
-    let x = c .before .before .before .before .before .args in
-    c .last-blocks .ensures ∙ hash-rest (x .h) _ (x .m .now) [] (padding (x .n)) (c .before .before .before .whole-blocks .ensures)
-    ∙ ap (λ (l : List ℕ). hashAll (x .h) (l ++ padding (x .n))) (append-nil (x .m .now))
+returns c s e =
+    let x = c .before .before .before .before .before .before .before .args in
+    let m = x .m .now in
+    c .last-blocks .ensures (hashAll s m) (c .before .before .before .before .whole-blocks .ensures s e)
+    ∙ ap wordsOf (hash-rest s _ m [] (padding (x .n)) refl ∙ ap (λ (l : List ℕ). hashAll s (l ++ padding (x .n))) (append-nil m))
 
 pub rest-spec : {M : Type 1} → statement M
 rest-spec =

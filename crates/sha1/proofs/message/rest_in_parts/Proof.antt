@@ -1,11 +1,12 @@
-use mathlib.Core.Path.{refl, sym, _∙_}
+use mathlib.Core.Path.{refl, sym, ap, _∙_}
 use Prim.Native.Nat.{_-_}
 use native.Mathlib.Omega.{arith}
-use borrow.Author.Needs.{needs}
 use lib.ListN.{length}
 use lib.Seq.{length-take-le}
 use Rattle.sha1.specs.Sha1.{padding}
-use Rattle.sha1.proofs.MessageLaws.{hash-joint}
+use Rattle.sha1.specs.Parts.{wordsOf}
+use Rattle.sha1.proofs.MessageLaws.{filled-zeros, hash-joint}
+use borrow.Author.Needs.{needs}
 use Rattle.sha1.proofs.message.rest_in_parts.Statement.{statement}
 use Rattle.sha1.proofs.message.rest_in_parts.Tie as tie
 
@@ -18,21 +19,24 @@ last-blocks-requires c κs = search needs
 returns : tie.Need-returns
 returns c = search needs
 
-slice-aggregate-zero-filled : tie.Need-slice-aggregate-zero-filled
-slice-aggregate-zero-filled c =
+slice-aggregate-fill : tie.Need-slice-aggregate-fill
+slice-aggregate-fill c =
     let x = c .before .before .before .before .args in
     sym (length-take-le (64 - length (x .a .now)) (x .b .now) (omega arith))
 
-zero-filled-requires : tie.Need-zero-filled-requires
-zero-filled-requires c κs =
-    let x = c .before .before .before .before .args in
+slice-aggregate-fill-2 : tie.Need-slice-aggregate-fill-2
+slice-aggregate-fill-2 c = search needs
+
+fill-requires : tie.Need-fill-requires
+fill-requires c κs =
+    let x = c .before .before .before .before .before .args in
     omega (arith, length-take-le (64 - length (x .a .now)) (x .b .now) (omega arith))
 
-slice-aggregate-compress : tie.Need-slice-aggregate-compress
-slice-aggregate-compress c = search needs
+slice-aggregate-compress-in : tie.Need-slice-aggregate-compress-in
+slice-aggregate-compress-in c = search needs
 
-compress-requires : tie.Need-compress-requires
-compress-requires c κs = search needs
+compress-in-requires : tie.Need-compress-in-requires
+compress-in-requires c κs = search needs
 
 sub-rest : tie.Need-sub-rest
 sub-rest c = search needs
@@ -47,10 +51,10 @@ rest-requires : tie.Need-rest-requires
 rest-requires c κs = search needs
 
 returns-2 : tie.Need-returns-2
-returns-2 c =
-    let x = c .before .before .before .before .before .before .before .before .before .args in
-    c .rest .ensures
-    ∙ hash-joint (x .h) _ (x .a .now) (x .b .now) (padding (x .n)) _ (64 - length (x .a .now)) refl (omega arith) (omega arith) (c .before .before .before .before .zero-filled .ensures) (c .before .before .compress .ensures)
+returns-2 c s e =
+    let x = c .before .before .before .before .before .before .before .before .before .before .before .before .before .args in
+    c .rest .ensures _ (c .before .before .before .compress-in .ensures s e)
+    ∙ ap wordsOf (hash-joint s _ (x .a .now) (x .b .now) (padding (x .n)) _ (64 - length (x .a .now)) refl (omega arith) (omega arith) (c .before .before .before .before .before .before .before .fill .ensures ∙ filled-zeros _) refl)
 
 pub rest-in-parts-spec : {M : Type 1} → statement M
 rest-in-parts-spec =
@@ -59,10 +63,11 @@ rest-in-parts-spec =
     sub-gap
     last-blocks-requires
     returns
-    slice-aggregate-zero-filled
-    zero-filled-requires
-    slice-aggregate-compress
-    compress-requires
+    slice-aggregate-fill
+    slice-aggregate-fill-2
+    fill-requires
+    slice-aggregate-compress-in
+    compress-in-requires
     sub-rest
     part-rest-start
     part-rest-end

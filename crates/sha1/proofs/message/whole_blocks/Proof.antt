@@ -1,22 +1,24 @@
--- The loop's invariant: s is the hash value after the first i blocks of m.
+-- The loop's invariant: h holds the hash value after the first i blocks of m.
 use mathlib.Core.Path.{_≡_, refl, ap, _∙_}
-use Prim.Native.Nat.{_-_, _≤_}
+use Prim.Native.Nat.{ℕ, _-_, _≤_}
 use native.Mathlib.Omega.{arith}
 use borrow.Author.Needs.{needs}
+use Rattle.sha1.specs.declared.State.{State}
 use Rattle.sha1.specs.Sha1.{hashValue, hashAll}
+use Rattle.sha1.specs.Parts.{wordsOf}
 use Rattle.sha1.proofs.MessageLaws.{next-part, length-part}
 use Rattle.sha1.proofs.message.whole_blocks.Statement.{statement}
 use Rattle.sha1.proofs.message.whole_blocks.Tie as tie
 
 abbrev Inv-loop : tie.InvT-loop
-Inv-loop m n s₀ i₀ s i = (i ≤ n) × (s ≡ hashValue s₀ m i)
+Inv-loop h₀ m n i₀ h i = (i ≤ n) × ((s : State) → h₀ ≡ wordsOf s → h ≡ wordsOf (hashValue s m i))
 
 abbrev μ-loop : tie.MeasureT-loop
-μ-loop m n s₀ i₀ s i = n - i
+μ-loop h₀ m n i₀ h i = n - i
 
 loop-holds : tie.Need-loop-holds Inv-loop μ-loop
 unfolding hashValue
-loop-holds c = (search needs, refl)
+loop-holds c = (search needs, λ s e. e)
 
 mul-from : tie.Need-mul-from Inv-loop μ-loop
 mul-from c = search needs
@@ -24,17 +26,17 @@ mul-from c = search needs
 add-to : tie.Need-add-to Inv-loop μ-loop
 add-to c = search needs
 
-sub-compress : tie.Need-sub-compress Inv-loop μ-loop
-sub-compress c = search needs
+sub-compress-in : tie.Need-sub-compress-in Inv-loop μ-loop
+sub-compress-in c = search needs
 
-part-compress-start : tie.Need-part-compress-start Inv-loop μ-loop
-part-compress-start c = search needs
+part-compress-in-start : tie.Need-part-compress-in-start Inv-loop μ-loop
+part-compress-in-start c = search needs
 
-part-compress-end : tie.Need-part-compress-end Inv-loop μ-loop
-part-compress-end c = search needs
+part-compress-in-end : tie.Need-part-compress-in-end Inv-loop μ-loop
+part-compress-in-end c = search needs
 
-compress-requires : tie.Need-compress-requires Inv-loop μ-loop
-compress-requires c κs = length-part (c .before .before .before .before .args .m .now) (c .before .before .loop .i) (omega arith)
+compress-in-requires : tie.Need-compress-in-requires Inv-loop μ-loop
+compress-in-requires c κs = length-part (c .before .before .before .before .before .args .m .now) (c .before .before .before .loop .i) (omega arith)
 
 add-i : tie.Need-add-i Inv-loop μ-loop
 add-i c = search needs
@@ -44,16 +46,16 @@ loop-less c = search needs
 
 loop-again : tie.Need-loop-again Inv-loop μ-loop
 loop-again c =
-    let l = c .before .before .before .loop in
-    let x = c .before .before .before .before .before .args in
-    (omega arith, c .compress .ensures ∙ next-part (x .h) (l .s) (x .m .now) (l .i) (l .inv .1))
+    let l = c .before .before .before .before .loop in
+    let m = c .before .before .before .before .before .before .args .m .now in
+    (omega arith, λ s e. c .compress-in .ensures (hashValue s m (l .i)) (l .inv .1 s e) ∙ ap wordsOf (next-part s (hashValue s m (l .i)) m (l .i) refl))
 
 returns : tie.Need-returns Inv-loop μ-loop
 unfolding hashAll
-returns c =
+returns c s e =
     let l = c .before .loop in
-    let x = c .before .before .before .args in
-    l .inv .1 ∙ ap (hashValue (x .h) (x .m .now)) (omega arith)
+    let m = c .before .before .before .args .m .now in
+    l .inv .1 s e ∙ ap (λ (k : ℕ). wordsOf (hashValue s m k)) (omega arith)
 
 pub whole-blocks-spec : {M : Type 1} → statement M
 whole-blocks-spec =
@@ -64,10 +66,10 @@ whole-blocks-spec =
     loop-holds
     mul-from
     add-to
-    sub-compress
-    part-compress-start
-    part-compress-end
-    compress-requires
+    sub-compress-in
+    part-compress-in-start
+    part-compress-in-end
+    compress-in-requires
     add-i
     loop-less
     loop-again

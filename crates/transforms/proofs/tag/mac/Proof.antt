@@ -1,12 +1,12 @@
 use mathlib.Core.List.{List, _++_}
 use mathlib.Core.Path.{sym, ap, _∙_}
 use Prim.Native.Nat.{ℕ}
-use borrow.Author.Needs.{needs}
 use Rattle.octets.specs.BigEndian.{toBytes}
 use Rattle.octets.specs.Buffer.{overAt}
 use Rattle.sha1.specs.Hmac.{hmacWith}
 use Rattle.transforms.specs.Tag.{rolloverCounter, mediaTag}
 use Rattle.transforms.proofs.TagLaws.{whole-tag}
+use borrow.Author.Needs.{needs}
 use Rattle.transforms.proofs.tag.mac.Statement.{statement}
 use Rattle.transforms.proofs.tag.mac.Tie as tie
 
@@ -28,9 +28,9 @@ hmac-requires c κs = search needs
 returns : tie.Need-returns
 unfolding mediaTag overAt
 returns c =
-    let x = c .before .before .before .before .before .before .before .args in
+    let x = c .before .before .before .before .before .before .before .before .args in
     c .hmac .ensures
-    ∙ ap (λ (l : List ℕ). hmacWith (x .keys .tag) (x .authenticated .now ++ l)) (c .before .before .before .store32 .ensures)
+    ∙ ap (λ (l : List ℕ). hmacWith (x .keys .tag) (x .authenticated .now ++ l)) (c .before .before .before .before .store32 .ensures)
     ∙ sym (whole-tag (x .keys) (x .authenticated .now ++ toBytes 4 (rolloverCounter (x .index))))
 
 pub mac-spec : {M : Type 1} → statement M

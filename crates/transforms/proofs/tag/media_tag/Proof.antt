@@ -1,5 +1,5 @@
-use borrow.Author.Needs.{needs}
 use Rattle.transforms.proofs.RccLaws.{tag-carried, tag-plain}
+use borrow.Author.Needs.{needs}
 use Rattle.transforms.proofs.tag.media_tag.Statement.{statement}
 use Rattle.transforms.proofs.tag.media_tag.Tie as tie
 
@@ -12,8 +12,8 @@ cast-number c = search needs
 carries-requires : tie.Need-carries-requires
 carries-requires c κs = search needs
 
-with-counter-requires : tie.Need-with-counter-requires
-with-counter-requires c κs = search needs
+put-counter-requires : tie.Need-put-counter-requires
+put-counter-requires c κs = search needs
 
 returns : tie.Need-returns
 returns c = search tag-carried
@@ -24,4 +24,4 @@ returns-2 c = search tag-plain
 pub media-tag-spec : {M : Type 1} → statement M
 media-tag-spec =
     tie.close
-    (tie.spec mac-requires cast-number carries-requires with-counter-requires returns returns-2)
+    (tie.spec mac-requires cast-number carries-requires put-counter-requires returns returns-2)

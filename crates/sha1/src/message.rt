@@ -36,7 +36,8 @@ pub fn zero_filled(a: &[u8], b: &[u8]) -> [u8; 64]
 // Puts the length in bits of a message of `n` bytes at the end of `block`.
 fn set_length(block: &mut [u8; 64], n: usize)
     requires { ⌜ 8 * n < 2 ^ 64 ⌝ }
-    ensures { λ _. ⌜ now (block .exit) ≡ overAt 56 (toBytes 8 (8 * n)) (now (block .entry)) ⌝ }
+    ensures written { λ _. ⌜ now (block .exit) ≡ overAt 56 (toBytes 8 (8 * n)) (now (block .entry)) ⌝ }
+    ensures size { λ _. ⌜ length (now (block .exit)) ≡ length (now (block .entry)) ⌝ }
 {
     let bits = (8 * n) as u64;
     octets::store64(block, 56, bits);

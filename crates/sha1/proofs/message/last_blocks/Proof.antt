@@ -6,7 +6,7 @@ use Prim.Native.Nat.{_+_, _<_, _≤_, _%_}
 use native.Mathlib.Omega.{arith}
 use lib.ListN.{length, length-append}
 use Rattle.sha1.specs.Parts.{wordsOf}
-use Rattle.sha1.proofs.MessageLaws.{stored-end, length-last, length-ended, hash-last, hash-last-two}
+use Rattle.sha1.proofs.MessageLaws.{stored-end, hash-last, hash-last-two}
 use borrow.Author.Needs.{needs}
 use Rattle.sha1.proofs.message.last_blocks.Statement.{statement}
 use Rattle.sha1.proofs.message.last_blocks.Tie as tie
@@ -34,13 +34,9 @@ set-length-requires c κs = search needs
 
 slice-aggregate-compress-in-2 : tie.Need-slice-aggregate-compress-in-2
 slice-aggregate-compress-in-2 c =
-    let x = c .before .before .before .before .before .before .before .before .before .before .args in
-    let m = x .a .now ++ x .b .now in
-    let f = stored-end m _ (length (x .a .now) + length (x .b .now)) (c .before .before .before .before .before .before .fill .ensures) (sym (length-append (x .a .now) (x .b .now))) (omega arith) in
-    let l : length m < 64 = omega (arith, length-append (x .a .now) (x .b .now)) in
     let j = c .before .before .before .before .if1 in
-    let k : length (j .block) ≡ 64 = ⊎-elim (λ w. ap length (w .5)) (λ w. ap length (w .2 ∙ f) ∙ length-ended m l) (j .came) in
-    sym (ap length (c .before .before .set-length .ensures) ∙ length-last (x .n) (j .block) k)
+    let k : length (j .block) ≡ 64 = ⊎-elim (λ w. ap length (w .5)) (λ w. ap length (w .2) ∙ search needs) (j .came) in
+    sym (c .before .before .set-length .ensures .1 ∙ k)
 
 compress-in-requires-2 : tie.Need-compress-in-requires-2
 compress-in-requires-2 c κs = sym (slice-aggregate-compress-in-2 c)
@@ -51,7 +47,7 @@ returns c s e =
     let m = x .a .now ++ x .b .now in
     let r : length m ≡ x .n % 64 = omega (arith, length-append (x .a .now) (x .b .now)) in
     let f = stored-end m _ (length (x .a .now) + length (x .b .now)) (c .before .before .before .before .before .before .before .fill .ensures) (sym (length-append (x .a .now) (x .b .now))) (omega arith) in
-    let g = c .before .before .before .set-length .ensures in
+    let g = c .before .before .before .set-length .ensures .0 in
     ⊎-elim
     (λ w.
     let l : 56 ≤ length m = omega (arith, length-append (x .a .now) (x .b .now)) in

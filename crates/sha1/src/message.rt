@@ -43,9 +43,9 @@ fn set_length(block: &mut [u8; 64], n: usize)
     octets::store64(block, 56, bits);
 }
 
-// ---- the hash value after a message
+// ---- the hash value of a message
 
-// After the last one or two blocks of a message of `n` bytes: `a`, `b`, less than a block together, and the padding.
+// Takes `h` past the last one or two blocks of a message of `n` bytes: `a`, `b`, less than a block together, and the padding.
 fn last_blocks(h: &mut [u32; 5], n: usize, a: &[u8], b: &[u8])
     requires { ⌜ (8 * n < 2 ^ 64) × (length (now a) + length (now b) ≡ n % 64) ⌝ }
     ensures { λ _.
@@ -63,7 +63,7 @@ fn last_blocks(h: &mut [u32; 5], n: usize, a: &[u8], b: &[u8])
     compress_in(h, &block);
 }
 
-// After each whole block of `m`.
+// Takes `h` past each whole block of `m`.
 fn whole_blocks(h: &mut [u32; 5], m: &[u8])
     ensures { λ _. ⌜ ((s : State) → now (h .entry) ≡ wordsOf s → now (h .exit) ≡ wordsOf (hashAll s (now (m .entry)))) ⌝ }
 {
@@ -77,7 +77,7 @@ fn whole_blocks(h: &mut [u32; 5], m: &[u8])
     }
 }
 
-// After the rest `m` of a message of `n` bytes, and the padding.
+// Takes `h` past the rest `m` of a message of `n` bytes, and the padding.
 fn rest(h: &mut [u32; 5], n: usize, m: &[u8])
     requires { ⌜ (8 * n < 2 ^ 64) × (length (now m) % 64 ≡ n % 64) ⌝ }
     ensures { λ _. ⌜ ((s : State) → now (h .entry) ≡ wordsOf s → now (h .exit) ≡ wordsOf (hashAll s (now (m .entry) ++ padding n))) ⌝ }
@@ -104,7 +104,7 @@ fn rest_in_parts(h: &mut [u32; 5], n: usize, a: &[u8], b: &[u8])
     rest(h, n, &b[gap..]);
 }
 
-// After a message whose first `before` bytes, whole blocks, have led to `h`, and whose rest is `a` and `b`.
+// Takes `h`, to which the first `before` bytes of a message have led, whole blocks, past its rest, `a` and `b`, and the padding.
 // As FIPS 180-4 has it, a message is shorter than 2^64 bits.
 pub fn hash_after(h: &mut [u32; 5], before: usize, a: &[u8], b: &[u8])
     requires { ⌜ (before % 64 ≡ 0) × (8 * (before + (length (now a) + length (now b))) < 2 ^ 64) ⌝ }
@@ -132,7 +132,7 @@ pub fn put_digest(h: &[u32; 5], d: &mut [u8])
     octets::store32(d, 16, h[4]);
 }
 
-// After the last block of a message that is one block, which has led to `h`, and the digest of `inner`.
+// Takes `h`, to which one block has led, past the digest of `inner`, where the message ends.
 pub fn hash_digest(h: &mut [u32; 5], inner: &[u32; 5])
     ensures { λ _.
         ⌜ ((s t : State) → now (h .entry) ≡ wordsOf s → now (inner .entry) ≡ wordsOf t → now (h .exit) ≡ wordsOf (hashAll s (digestOf t ++ padding 84))) ⌝ }

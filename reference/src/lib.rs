@@ -13,6 +13,7 @@
 //! | RFC 3550; RFC 3711, 3.1 and 3.4 | [`layout`] |
 //! | RFC 3711, 3.3.1 and 3.3.2 | [`index`], [`replay`] |
 //! | RFC 4771, 2 and 3 | [`settings::Integrity`]; tags in [`layout`], [`session`], [`context`] |
+//! | RFC 4571; the sale desk | [`desk`] |
 //! | the link's own rules | [`settings`], [`refusal`], [`context`] |
 
 pub mod aes;
@@ -23,6 +24,7 @@ pub mod counter_mode;
 pub mod coverage;
 pub mod derive;
 pub mod describe;
+pub mod desk;
 pub mod evening;
 pub mod generate;
 pub mod hmac;

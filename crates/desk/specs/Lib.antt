@@ -1,0 +1,4 @@
+pub mod Framing
+pub mod Listening
+pub mod Reads
+pub mod Runs

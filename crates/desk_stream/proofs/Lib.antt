@@ -1,0 +1,7 @@
+pub mod OneStream
+pub mod StreamDemands
+mod RunLaws
+pub mod DeskOpens
+mod SentLaws
+pub mod SentThrough
+pub mod DeskRuns

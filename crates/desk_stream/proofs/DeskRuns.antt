@@ -13,7 +13,9 @@ use Rattle.desk.specs.Runs.{Call, Run, taken, written}
 use Rattle.desk.specs.declared.Start.{Start}
 use Rattle.desk.proofs.RunLaws.{run-output}
 use Rattle.desk_stream.specs.Streams.{packetsOf, DeskOpens, protectedBy, plainBy}
+use Rattle.desk_stream.specs.DeskEvening.{Arrival, arriving, opened, SupposedAtDesk}
 use Rattle.desk_stream.proofs.DeskOpens.{desk-opens}
+use Rattle.desk_stream.proofs.DeskEvening.{desk-evening}
 use Rattle.desk_stream.proofs.SentThrough.{sent-through}
 
 module _ (key : List ℕ) (s : Start) (h : Starts key s) (calls : List Call) (r : Run (s .desk) calls) where
@@ -27,3 +29,8 @@ module _ (key : List ℕ) (s : Start) (h : Starts key s) (calls : List Call) (r 
   pub run-sent-through : (ssrc : ℕ) (run : List SenderCall) → length key ≡ 30 → BytesIn run → taken calls ≡ frames (protectedBy (setUpUnder key ssrc) run)
       → written calls ≡ frames (plainBy (setUpUnder key ssrc) run)
   run-sent-through ssrc run k y e = run-output key s h calls r ∙ ap (output key) e ∙ sent-through key ssrc run k y
+
+  -- and in the course of an evening, what was sent, each packet at its first delivery
+  pub run-evening : (ssrc : ℕ) (run : List SenderCall) (evening : List (Arrival (setUpUnder key ssrc) run)) → length key ≡ 30 → BytesIn run
+      → SupposedAtDesk key ssrc run evening → taken calls ≡ frames (arriving evening) → written calls ≡ frames (opened evening)
+  run-evening ssrc run evening k y supposed e = run-output key s h calls r ∙ ap (output key) e ∙ desk-evening key ssrc run evening k y supposed

@@ -4,4 +4,6 @@ mod RunLaws
 pub mod DeskOpens
 mod SentLaws
 pub mod SentThrough
+pub mod DeskEvening
 pub mod DeskRuns
+mod EveningWitness

@@ -53,7 +53,7 @@ module _ (key p : List ℕ) (ps : List (List ℕ)) where
   abbrev goal : Outcome Receiver → Type 0
   goal o = served (start key) (p ∷ ps) ≡ written o ++ served (after (start key) o) ps
 
-  by-first : (o : Outcome Receiver) → receiving r (asMedia p) ≡ o → goal o
+  pub by-first : (o : Outcome Receiver) → receiving r (asMedia p) ≡ o → goal o
   by-first o e = ap (λ (x : Outcome Receiver). written x ++ served (after (start key) x) ps) (first-call key p ∙ e)
 
   one-more : OneStream key ps → (o : Outcome Receiver) → receiving r (asMedia p) ≡ o → OneStream key (p ∷ ps)

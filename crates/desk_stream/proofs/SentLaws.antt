@@ -53,7 +53,7 @@ module _ (key : List ℕ) (ssrc : ℕ) where
   u = setUpUnder key ssrc
 
   -- ---- a packet that is made
-  made-ssrc : (p : List ℕ) (i : ℕ) (b : List ℕ) → Made media u p i b → rtpSsrc b ≡ ssrc
+  pub made-ssrc : (p : List ℕ) (i : ℕ) (b : List ℕ) → Made media u p i b → rtpSsrc b ≡ ssrc
   made-ssrc p i b m =
       let r : isRtp p ≡ true = m .plain .shape in
       let x : List ℕ = encryptedBy u (u .profile .cipher) mediaLabel i (payload p) in
@@ -83,7 +83,7 @@ module _ (key : List ℕ) (ssrc : ℕ) where
         tag-length a i,
       )
 
-  made-length : (p : List ℕ) (i : ℕ) (b : List ℕ) → Made media u p i b → length b ≤ 2058
+  pub made-length : (p : List ℕ) (i : ℕ) (b : List ℕ) → Made media u p i b → length b ≤ 2058
   made-length p i b m =
       let e : length b ≡ length p + 10 = ap length (m .bytes ∙ sym (protect-media u p i)) ∙ packet-length p i in
       omega (arith, m .plain .not-long)

@@ -51,7 +51,7 @@ highest-last h [] i = refl
 highest-last h (j ∷ is) i = highest-last (raise h j) is i
 
 -- ---- what finishes p at i
-finished-as : (o : Outcome Receiver) (d p : List ℕ) (i : ℕ) → Finishes o d p i → (r : Receiver) × (o ≡ done p i r)
+pub finished-as : (o : Outcome Receiver) (d p : List ℕ) (i : ℕ) → Finishes o d p i → (r : Receiver) × (o ≡ done p i r)
 finished-as (refused n) d p i f = let e = f .answer in let z : _≡_ {A = ℕ} 0 1 = cc in absurd (omega arith)
 finished-as (done q j r) d p i f =
     let e = f .answer in

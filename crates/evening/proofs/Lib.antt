@@ -3,4 +3,4 @@ pub mod EventLaws
 pub mod WholeEvening
 pub mod OnePacket
 pub mod InOrder
-mod Witness
+pub mod Witness

@@ -33,7 +33,7 @@ use Rattle.evening.proofs.WholeEvening.{whole-evening, plain-evening}
 
 -- ---- what is supposed of an evening, one event after the other
 module _ {u : SetUp} {run : List Call} where
-  abbrev Each : (List (Event u run) → Event u run → Type 0) → (before rest : List (Event u run)) → Type 0
+  abbrev pub Each : (List (Event u run) → Event u run → Type 0) → (before rest : List (Event u run)) → Type 0
   Each P before [] = Unit {0}
   Each P before (e ∷ es) = P before e × Each P (before ++ (e ∷ [])) es
 
@@ -47,13 +47,13 @@ module _ {u : SetUp} {run : List Call} where
       (each-comes P (before ++ (x ∷ [])) rest
       (subst (λ (z : Event u run). Each P (before ++ (z ∷ [])) rest) (head-eq-of-cons-eq q) (h .1)) more e after (tail-eq-of-cons-eq q))
 
-  abbrev SupposedOf : (whole : ℕ → Bool) → (rollover : ℕ) → (before : List (Event u run)) → Event u run → Type 0
+  abbrev pub SupposedOf : (whole : ℕ → Bool) → (rollover : ℕ) → (before : List (Event u run)) → Event u run → Type 0
   SupposedOf whole rollover before (genuine g d) =
       KeepsUp (whole (g .index)) rollover (highestOf Absent (delivered before)) (g .index) × (length (packetOf g) ≤ length d)
   SupposedOf whole rollover before (strange b d) = IsRefused (outcomeOf rollover before (strange b d))
   SupposedOf whole rollover before (other c n) = Unit {0}
 
-  supposed : (whole : ℕ → Bool) (rollover : ℕ) (evening : List (Event u run)) → Each (SupposedOf whole rollover) [] evening →
+  pub supposed : (whole : ℕ → Bool) (rollover : ℕ) (evening : List (Event u run)) → Each (SupposedOf whole rollover) [] evening →
       Supposed whole u rollover run evening
   supposed whole rollover evening h =
       let at = each-comes (SupposedOf whole rollover) [] evening h in
@@ -64,7 +64,7 @@ module _ {u : SetUp} {run : List Call} where
       }
 
 -- ---- the calls
-abbrev setUp : Integrity → (tag : ℕ) → SetUp
+abbrev pub setUp : Integrity → (tag : ℕ) → SetUp
 setUp t n =
     record {
       ssrc = 1;
@@ -75,22 +75,22 @@ setUp t n =
     }
 
 -- a packet with this number and no payload
-abbrev numbered : (number : ℕ) → List ℕ
+abbrev pub numbered : (number : ℕ) → List ℕ
 numbered q = toBytes 12 (2 ^ 95 + q * 2 ^ 64 + 1)
 
-numbered-bytes : (q : ℕ) → Bytes (numbered q)
+pub numbered-bytes : (q : ℕ) → Bytes (numbered q)
 numbered-bytes q = bytes-toBytes 12 (2 ^ 95 + q * 2 ^ 64 + 1)
 
-abbrev sends : (number : ℕ) → Call
+abbrev pub sends : (number : ℕ) → Call
 sends q = record { kind = media; packet = numbered q; buffer = replicate 26 0 }
 
 -- of a run the packet with number q
-abbrev packetAt : (u : SetUp) (earlier : List Call) (q : ℕ) (later : List Call) (i : ℕ) → FinishedAt (senderOutcome u earlier (sends q)) i →
+abbrev pub packetAt : (u : SetUp) (earlier : List Call) (q : ℕ) (later : List Call) (i : ℕ) → FinishedAt (senderOutcome u earlier (sends q)) i →
     Genuine u (earlier ++ (sends q ∷ later))
 packetAt u earlier q later i s =
     record { earlier = earlier; call = sends q; later = later; in-run = refl; as-media = refl; index = i; sent = s }
 
-abbrev asControl : Call
+abbrev pub asControl : Call
 asControl = record { kind = control; packet = numbered 7; buffer = [] }
 
 -- no bytes at all are refused by every receiver
@@ -102,7 +102,7 @@ empty-portion : (s : Session) → mediaPortion s [] ≡ []
 unfolding authenticatedPortion
 empty-portion s = take-none (0 - (length (mkiBytes s) + tagLength s))
 
-empty-refused : (r : Receiver) (room : ℕ) → IsRefused (receiveMedia r [] room)
+pub empty-refused : (r : Receiver) (room : ℕ) → IsRefused (receiveMedia r [] room)
 unfolding receiveMedia isRtp headerLength
 empty-refused r room = go (receiverListed r) refl
   where
@@ -111,17 +111,17 @@ empty-refused r room = go (receiverListed r) refl
     go false e = (Setup, rw e)
 
 -- ---- without the transform: two packets about the rollover of the sequence number, with a control call between them; the first comes again
-abbrev plain : SetUp
+abbrev pub plain : SetUp
 plain = setUp HmacSha1 10
 
-abbrev plainRun : List Call
+abbrev pub plainRun : List Call
 plainRun = sends 65535 ∷ asControl ∷ sends 0 ∷ []
 
-unfoldable p₁ : Genuine plain plainRun
+unfoldable pub p₁ : Genuine plain plainRun
 unfolding sendMedia senderListed isRtp headerLength sequenceNumber rtpSsrc mkiBytes sessionOf setUpSender listed
 p₁ = packetAt plain [] 65535 (asControl ∷ sends 0 ∷ []) 65535 (length (srtp (sessionOf plain) (numbered 65535) 65535), refl)
 
-unfoldable p₂ : Genuine plain plainRun
+unfoldable pub p₂ : Genuine plain plainRun
 unfolding sendMedia sendControl isRtcp rtcpSsrc senderListed isRtp headerLength sequenceNumber rtpSsrc mkiBytes sessionOf setUpSender listed
 p₂ = packetAt plain (sends 65535 ∷ asControl ∷ []) 0 [] 65536 (length (srtp (sessionOf plain) (numbered 0) 65536), refl)
 

@@ -1,4 +1,6 @@
 // AES (FIPS 197): the key expansion, and the cipher on one block by the S-box alone.
+#![tactic(auto)]
+
 mod cipher;
 mod expansion;
 mod substitution;
@@ -11,7 +13,7 @@ pub use expansion::{expand_128, expand_key};
 pub use substitution::sbox;
 
 // A block on its way through the cipher: its four columns (FIPS 197, 3.5), each a word whose first byte is the highest.
-#[derive(Drop)]
+#[derive(Clone, Copy)]
 pub struct State {
     pub c0: u32,
     pub c1: u32,

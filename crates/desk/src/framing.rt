@@ -7,35 +7,35 @@ ghost use Rattle.desk.specs.Reads.{Holds, Steps, found_length, Takes};
 pub const MAX_FRAME_LEN: usize = 2058;
 
 // What stands of a frame: how many bytes, and the length that the first two tell.
-#[derive(Drop)]
+#[derive(Clone, Copy)]
 pub struct Reader {
     pub got: usize,
     pub len: u16,
 }
 
 // What stands of a frame between two reads: also the first bytes of its packet, if that is not too long.
-#[derive(Drop)]
+#[derive(Clone, Copy)]
 pub struct Frame {
     pub reader: Reader,
     pub kept: [u8; 2058],
 }
 
 // What stands of a frame with more of its bytes, and the place in the input up to which bytes were taken.
-#[derive(Drop)]
+#[derive(Clone, Copy)]
 pub struct Step {
     pub next: Reader,
     pub at: usize,
 }
 
 // Whether a packet is complete: it is the first bytes of those kept.
-#[derive(Drop)]
+#[derive(Clone, Copy)]
 pub enum Found {
     Packet(usize),
     Nothing,
 }
 
 // What was found, and the place in the input up to which bytes were taken.
-#[derive(Drop)]
+#[derive(Clone, Copy)]
 pub struct Taken {
     pub next: Reader,
     pub at: usize,

@@ -1,5 +1,6 @@
 // The sale desk: protected media packets in RFC 4571's framing come in, read by read, and the opened ones go out in the same framing.
 // specs/Listening.antt says what the bytes of a key file and an input give as output. A program calls `Desk::start` and `Desk::serve`.
+#![tactic(auto)]
 mod framing;
 
 ghost use Rattle.std.specs.Prelude.{◌≡◌, List, [], ℕ, ◌+◌, ◌≤◌, ◌<◌, length, drop};
@@ -21,7 +22,7 @@ pub const KEY_FILE_LEN: usize = 30;
 pub const SPARE_LEN: usize = 4110;
 
 // The receiver that is fixed, once a packet was let in; until then it is closed, and each packet has a fresh one.
-#[derive(Drop)]
+#[derive(Clone, Copy)]
 pub struct Listener {
     pub key: [u8; 30],
     pub fixed: bool,
@@ -29,35 +30,35 @@ pub struct Listener {
 }
 
 // The desk between two reads.
-#[derive(Drop)]
+#[derive(Clone, Copy)]
 pub struct Desk {
     pub frame: Frame,
     pub listener: Listener,
 }
 
 // What changes with each packet.
-#[derive(Drop)]
+#[derive(Clone, Copy)]
 struct Progress {
     reader: Reader,
     listener: Listener,
 }
 
 // The desk of a key file, and whether the file has the right length.
-#[derive(Drop)]
+#[derive(Clone, Copy)]
 pub struct Start {
     pub ready: bool,
     pub desk: Desk,
 }
 
 // The length of what a packet writes, and the next listener.
-#[derive(Drop)]
+#[derive(Clone, Copy)]
 pub struct Received {
     pub len: usize,
     pub next: Listener,
 }
 
 // The place in the input up to which bytes were taken, and the length of the output so far.
-#[derive(Drop)]
+#[derive(Clone, Copy)]
 struct Turn {
     at: usize,
     len: usize,
@@ -65,7 +66,7 @@ struct Turn {
 }
 
 // Whether a read was taken, the length of its output, and the next desk.
-#[derive(Drop)]
+#[derive(Clone, Copy)]
 pub struct Served {
     pub taken: bool,
     pub len: usize,

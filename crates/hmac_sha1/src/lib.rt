@@ -1,4 +1,6 @@
 // SHA-1 (FIPS 180-4) of a message in two parts, and HMAC-SHA1 (RFC 2104) with the work that depends on the key alone kept apart.
+#![tactic(auto)]
+
 ghost use Rattle.std.specs.Prelude.{◌≡◌, ◌+◌, ◌*◌, ◌^◌, ◌<◌, ◌++◌, length, replicate};
 ghost use Rattle.octets.specs.Xor.{xors};
 ghost use Rattle.hmac_sha1.specs.declared.State.{State};
@@ -11,7 +13,7 @@ mod message;
 
 // The five words of a hash value, and the working variables a to e of the rounds. Its layout is C's, so that an exported context can hold it.
 #[repr(C)]
-#[derive(Drop)]
+#[derive(Clone, Copy)]
 pub struct State {
     pub a: u32,
     pub b: u32,
@@ -70,7 +72,7 @@ pub fn digest(a: &[u8], b: &[u8]) -> [u8; 20]
 
 // What the key alone decides of HMAC: the hash values after its inner and its outer block (RFC 2104, section 4).
 #[repr(C)]
-#[derive(Drop)]
+#[derive(Clone, Copy)]
 pub struct HmacKey {
     pub inner: State,
     pub outer: State,

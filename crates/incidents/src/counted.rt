@@ -6,7 +6,7 @@ use crate::{network, packet};
 use srtp::{Receiver, Sender};
 
 // `len` is the length of a protected media packet.
-#[derive(Drop)]
+#[derive(Clone, Copy)]
 pub struct CountedLink {
     pub len: usize,
     sender: Sender,

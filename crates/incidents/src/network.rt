@@ -7,7 +7,7 @@ pub const ROOM: usize = 30;
 pub const REPORT_LEN: usize = 22;
 
 // Bytes that were not sent as they are.
-#[derive(Drop)]
+#[derive(Clone, Copy)]
 pub struct Strange {
     pub bytes: [u8; ROOM],
     pub len: usize,

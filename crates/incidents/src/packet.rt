@@ -64,7 +64,7 @@ fn send_into(s: Sender, number: u16, out: &mut [u8]) -> Sender {
 }
 
 // What receiving gave: the answer, whether it let in the packet that was sent, and the next context.
-#[derive(Drop)]
+#[derive(Clone, Copy)]
 pub struct Received {
     pub answer: Answer,
     pub as_sent: bool,
@@ -161,7 +161,7 @@ pub fn receive_control(r: Receiver, packet: &[u8; 22]) -> Receiver {
 }
 
 // A sender and the receiver at the other end.
-#[derive(Drop)]
+#[derive(Clone, Copy)]
 pub struct Link {
     pub sender: Sender,
     pub receiver: Receiver,

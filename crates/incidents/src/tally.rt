@@ -10,13 +10,13 @@ pub const SLOTS: usize = 256;
 const MARKS: usize = 257;
 
 // What came: a packet, or bytes that were not sent as they are.
-#[derive(Drop)]
+#[derive(Clone, Copy)]
 pub enum Came {
     Packet(u8),
     Strange,
 }
 
-#[derive(Drop)]
+#[derive(Clone, Copy)]
 pub struct Tally {
     // The index that the sender answered for each packet.
     indices: [u64; SLOTS],

@@ -1,4 +1,6 @@
 // Big-endian words in slices of bytes, and bytewise XOR.
+#![tactic(auto)]
+
 ghost use Rattle.std.specs.Prelude.{◌≡◌, ◌+◌, ◌≤◌, length, take, drop};
 ghost use Rattle.octets.specs.BigEndian.{to_bytes, from_bytes};
 ghost use Rattle.octets.specs.Xor.{xors};

@@ -10,14 +10,14 @@ pub const MAX_MEDIA_INDEX: u64 = 0xffff_ffff_ffff;
 pub const MAX_CONTROL_PACKETS: u64 = 0x8000_0000;
 
 // A receiver's highest index H: the largest that it accepted or was set up with, if there is one.
-#[derive(Drop)]
+#[derive(Clone, Copy)]
 pub enum Highest {
     Absent,
     At(u64),
 }
 
 // Where a received media packet lies: at an index, below 0 (refused as OLD), or above 2^48 - 1 (refused as SPENT).
-#[derive(Drop)]
+#[derive(Clone, Copy)]
 pub enum Estimate {
     Index(u64),
     Old,
@@ -25,7 +25,7 @@ pub enum Estimate {
 }
 
 // The media index that a sender used last, if it sent anything.
-#[derive(Drop)]
+#[derive(Clone, Copy)]
 pub enum LastSent {
     Nothing,
     At(u64),
@@ -33,7 +33,7 @@ pub enum LastSent {
 
 // What a sender does with its next packet: it uses this index; or refuses, as ORDER (the number is out of order) or as SPENT (there is
 // no index left).
-#[derive(Drop)]
+#[derive(Clone, Copy)]
 pub enum NextIndex {
     Index(u64),
     Order,
@@ -41,33 +41,33 @@ pub enum NextIndex {
 }
 
 // The same of control, whose packets have no order to break.
-#[derive(Drop)]
+#[derive(Clone, Copy)]
 pub enum NextControlIndex {
     Index(u64),
     Spent,
 }
 
 // A sender's media state: the index used last.
-#[derive(Drop)]
+#[derive(Clone, Copy)]
 pub struct MediaSender {
     pub last: LastSent,
 }
 
 // A sender's control state: how many packets it sent.
-#[derive(Drop)]
+#[derive(Clone, Copy)]
 pub struct ControlSender {
     pub sent: u64,
 }
 
 // What a sender does with its next media packet, and beside it its state once the packet is sent.
-#[derive(Drop)]
+#[derive(Clone, Copy)]
 pub struct MediaStep {
     pub index: NextIndex,
     pub next: MediaSender,
 }
 
 // The same of control.
-#[derive(Drop)]
+#[derive(Clone, Copy)]
 pub struct ControlStep {
     pub index: NextControlIndex,
     pub next: ControlSender,

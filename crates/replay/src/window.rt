@@ -8,7 +8,7 @@ use crate::row;
 use crate::row::WORDS;
 
 // What a receiver makes of an index: it is new; or refused as OLD, too far behind the highest; or refused as REPEAT, accepted already.
-#[derive(Drop)]
+#[derive(Clone, Copy)]
 pub enum Verdict {
     New,
     Old,
@@ -16,14 +16,14 @@ pub enum Verdict {
 }
 
 // Bit k of the row tells whether the index k below the highest was accepted. Without a highest index the bits say nothing.
-#[derive(Drop)]
+#[derive(Clone, Copy)]
 pub struct Window {
     pub highest: Highest,
     pub words: [u64; WORDS],
 }
 
 // The verdict on an index, and beside it the window with the index accepted.
-#[derive(Drop)]
+#[derive(Clone, Copy)]
 pub struct Marked {
     pub verdict: Verdict,
     pub next: Window,

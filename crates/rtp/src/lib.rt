@@ -1,6 +1,8 @@
 // Layouts of RTP and RTCP packets (RFC 3550) and of the packets that protect them (RFC 3711, 3.1 and 3.4).
 // The readers take any bytes of any length, and any length of MKI and tag: no sum in them can wrap. Places are counted from the
 // packet's first byte.
+#![tactic(auto)]
+
 ghost use Rattle.std.specs.Prelude.{◌≡◌, ◌/◌, ◌%◌, ◌^◌, ◌≤◌, length};
 ghost use Rattle.rtp.specs.Rtp.{header_of};
 ghost use Rattle.rtp.specs.Rtcp.{rtcp_header_of};
@@ -11,7 +13,7 @@ use octets::{load16, load32};
 
 // What an RTP packet's header says, and how long it is; or that the version isn't 2 or the header doesn't fit. The payload starts
 // where the header ends.
-#[derive(Drop)]
+#[derive(Clone, Copy)]
 pub enum Header {
     Rtp {
         header_len: usize,
@@ -22,14 +24,14 @@ pub enum Header {
 }
 
 // What the head of an RTCP packet says; or that the packet breaks the rule for it.
-#[derive(Drop)]
+#[derive(Clone, Copy)]
 pub enum RtcpHeader {
     Rtcp { ssrc: u32 },
     NotRtcp,
 }
 
 // Where MKI and tag begin; or that they don't fit.
-#[derive(Drop)]
+#[derive(Clone, Copy)]
 enum Trailer {
     At { mki: usize, tag: usize },
     TooShort,
@@ -37,7 +39,7 @@ enum Trailer {
 
 // What the header of a protected media packet says, and where MKI and tag begin; or that the header doesn't fit before them. The
 // payload reaches from the header to the MKI.
-#[derive(Drop)]
+#[derive(Clone, Copy)]
 pub enum SrtpLayout {
     Srtp {
         header_len: usize,
@@ -50,7 +52,7 @@ pub enum SrtpLayout {
 }
 
 // What a protected control packet says, and where its index word, MKI and tag begin; or that what stands before the word isn't RTCP.
-#[derive(Drop)]
+#[derive(Clone, Copy)]
 pub enum SrtcpLayout {
     Srtcp {
         ssrc: u32,

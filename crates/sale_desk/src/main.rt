@@ -1,5 +1,6 @@
 // The sale desk: reads protected media packets in RFC 4571's framing from standard input, and writes the opened ones in the same framing on
 // standard output. The key file is sale.key in the working directory; where it has not 30 bytes, or can't be read, nothing is written.
+#![tactic(auto)]
 ghost use Rattle.std.specs.Prelude.{true, ◌≡◌, ◌+◌, ◌≤◌, length, take};
 ghost use Rattle.desk.specs.Reads.{NotWhole, Serves, StartsUnder};
 
@@ -10,7 +11,7 @@ use libc::{STDIN_FILENO, STDOUT_FILENO};
 const READ_LEN: usize = 8192;
 
 // How many bytes a read gave, and what came of them.
-#[derive(Drop)]
+#[derive(Clone, Copy)]
 struct Round {
     n: usize,
     served: Served,

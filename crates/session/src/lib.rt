@@ -1,5 +1,7 @@
 // A session: the settings and session keys of one stream, and the packet that RFC 3711 (3.1, 3.4), or RFC 4771 by its integrity transform,
 // makes of a plain one under them at an index. It has no state: index and replay window stand above.
+#![tactic(auto)]
+
 mod packets;
 mod setup;
 
@@ -7,7 +9,7 @@ use transforms::{Cipher, Integrity, SessionKeys};
 
 // A protection profile: a cipher, an integrity transform and the length of the media tag. Every length that goes with a profile is named
 // here.
-#[derive(Drop)]
+#[derive(Clone, Copy)]
 pub struct Profile {
     pub cipher: Cipher,
     pub integrity: Integrity,
@@ -33,7 +35,7 @@ impl Profile {
 }
 
 // What set-up checks, kept with the context. The MKI is the first `mki_len` bytes of `mki`.
-#[derive(Drop)]
+#[derive(Clone, Copy)]
 pub struct Settings {
     pub profile: Profile,
     pub ssrc: u32,
@@ -42,7 +44,7 @@ pub struct Settings {
 }
 
 // What a packet is protected under.
-#[derive(Drop)]
+#[derive(Clone, Copy)]
 pub struct Session {
     pub settings: Settings,
     pub media: SessionKeys,

@@ -1,5 +1,7 @@
 // SRTP and SRTCP (RFC 3711, with RFC 4771's integrity transform) for one stream: contexts that go into a call by value and come back with
 // their next state, and the calls that protect and open media and control packets.
+#![tactic(auto)]
+
 mod receiving;
 mod sending;
 mod setup;
@@ -12,7 +14,7 @@ use replay::window::Window;
 use session::Session;
 
 // Why a call refuses, in the order of the table of refusals.
-#[derive(Drop)]
+#[derive(Clone, Copy)]
 pub enum Refusal {
     Setup,
     Long,
@@ -49,27 +51,27 @@ impl Refusal {
 }
 
 // A finished packet of `len` bytes at the start of the outgoing buffer, with its index; or a refusal.
-#[derive(Drop)]
+#[derive(Clone, Copy)]
 pub enum Answer {
     Sent { len: usize, index: u64 },
     Refused(Refusal),
 }
 
 // What set-up answers.
-#[derive(Drop)]
+#[derive(Clone, Copy)]
 pub enum SetUpAnswer {
     Ready,
     Refused(Refusal),
 }
 
 // The last sequence number that a receiver is told at set-up, if it is known.
-#[derive(Drop)]
+#[derive(Clone, Copy)]
 pub enum LastNumber {
     Unknown,
     Known(u16),
 }
 
-#[derive(Drop)]
+#[derive(Clone, Copy)]
 pub struct Sender {
     pub session: Session,
     pub media: MediaSender,
@@ -77,7 +79,7 @@ pub struct Sender {
 }
 
 // `rollover` is the rollover counter that set-up gave.
-#[derive(Drop)]
+#[derive(Clone, Copy)]
 pub struct Receiver {
     pub session: Session,
     pub rollover: u32,
@@ -85,25 +87,25 @@ pub struct Receiver {
     pub control: Window,
 }
 
-#[derive(Drop)]
+#[derive(Clone, Copy)]
 pub struct SenderSetUp {
     pub answer: SetUpAnswer,
     pub context: Sender,
 }
 
-#[derive(Drop)]
+#[derive(Clone, Copy)]
 pub struct ReceiverSetUp {
     pub answer: SetUpAnswer,
     pub context: Receiver,
 }
 
-#[derive(Drop)]
+#[derive(Clone, Copy)]
 pub struct SenderAfter {
     pub answer: Answer,
     pub next: Sender,
 }
 
-#[derive(Drop)]
+#[derive(Clone, Copy)]
 pub struct ReceiverAfter {
     pub answer: Answer,
     pub next: Receiver,

@@ -18,14 +18,14 @@ use session::{Profile, Settings};
 use transforms::SessionKeys;
 
 // What some rows of the table say: none holds, or the first that does.
-#[derive(Drop)]
+#[derive(Clone, Copy)]
 enum Judged {
     Passes,
     Stops(Refusal),
 }
 
 // What the rows of media say: where none holds, the lengths of the header and of the opened packet, and the index.
-#[derive(Drop)]
+#[derive(Clone, Copy)]
 enum MediaVerdict {
     Opens {
         header_len: usize,
@@ -36,7 +36,7 @@ enum MediaVerdict {
 }
 
 // The same of control: the length of the opened packet, whether it is enciphered, and the index.
-#[derive(Drop)]
+#[derive(Clone, Copy)]
 enum ControlVerdict {
     Opens {
         len: usize,

@@ -17,7 +17,7 @@ use rtp::{Header, RtcpHeader};
 use session::Profile;
 
 // What the rows of media say: where none holds, where the payload starts, the index, and the state once the packet is sent.
-#[derive(Drop)]
+#[derive(Clone, Copy)]
 enum MediaVerdict {
     Protects {
         header_len: usize,
@@ -28,7 +28,7 @@ enum MediaVerdict {
 }
 
 // The same of control: the index and the state.
-#[derive(Drop)]
+#[derive(Clone, Copy)]
 enum ControlVerdict {
     Protects { index: u64, after: ControlSender },
     Stops(Refusal),

@@ -1,5 +1,6 @@
 // Reads the answers that `trace` writes from standard input, and says in words what came of each record; then how many packets were sent
 // and let in, and how many calls were refused.
+#![tactic(auto)]
 mod reading;
 mod say;
 mod sum;
@@ -11,7 +12,7 @@ use sum::Sum;
 use trace_records::HEAD_LEN;
 
 // The counts after an answer, and whether another may follow.
-#[derive(Drop)]
+#[derive(Clone, Copy)]
 struct Turn {
     sum: Sum,
     goes_on: bool,

@@ -6,7 +6,7 @@ use srtp::Refusal;
 use trace_records::{HEAD_LEN, Head};
 
 // What stands before an answer's buffer: the record's op, the head, and the size of the buffer.
-#[derive(Drop)]
+#[derive(Clone, Copy)]
 pub struct Front {
     pub op: u8,
     pub head: Head,
@@ -14,7 +14,7 @@ pub struct Front {
 }
 
 // What an answer tells of its record.
-#[derive(Drop)]
+#[derive(Clone, Copy)]
 pub enum Told {
     // A set-up gave a context.
     Ready,

@@ -4,7 +4,7 @@ ghost use Rattle.tell.specs.Sums.{one_more, none, counted};
 
 use crate::reading::Told;
 
-#[derive(Drop)]
+#[derive(Clone, Copy)]
 pub struct Sum {
     pub answers: u64,
     pub sent: u64,

@@ -1,11 +1,12 @@
 // Reads the records of a trace from standard input, and writes the answer to each on standard output.
+#![tactic(auto)]
 ghost use Rattle.std.specs.Prelude.{◌≤◌, length};
 
 use libc::{STDIN_FILENO, STDOUT_FILENO};
 use trace_records::Contexts;
 
 // The contexts after a record, and whether another may follow.
-#[derive(Drop)]
+#[derive(Clone, Copy)]
 struct Turn {
     contexts: Contexts,
     goes_on: bool,

@@ -1,5 +1,6 @@
 // One record of a trace, answered on slices. A trace holds calls as bytes, big end first: a record is op (1 byte), length (2) and body.
 // Ops 1 and 2 set up the trace's sender and receiver; 3 to 6 send media, send control, receive media and receive control.
+#![tactic(auto)]
 mod answers;
 mod calls;
 mod setups;
@@ -11,14 +12,14 @@ ghost use Rattle.trace_records.specs.Records.{start, answered, Shows};
 use srtp::{Receiver, Sender};
 
 // The contexts of a trace.
-#[derive(Drop)]
+#[derive(Clone, Copy)]
 pub struct Contexts {
     pub sender: Sender,
     pub receiver: Receiver,
 }
 
 // What stands between an answer's op and the size of its buffer: a refusal's number, 0 or 255; index and length of a finished packet.
-#[derive(Drop)]
+#[derive(Clone, Copy)]
 pub struct Head {
     pub number: u8,
     pub index: u64,
@@ -26,14 +27,14 @@ pub struct Head {
 }
 
 // What a record leaves: the head of its answer, and the next contexts.
-#[derive(Drop)]
+#[derive(Clone, Copy)]
 pub struct Called {
     pub head: Head,
     pub next: Contexts,
 }
 
 // The answer's length, and the next contexts.
-#[derive(Drop)]
+#[derive(Clone, Copy)]
 pub struct Answered {
     pub len: usize,
     pub next: Contexts,

@@ -12,21 +12,21 @@ use srtp::{LastNumber, Receiver, ReceiverSetUp, Refusal, Sender, SenderSetUp, Se
 use transforms::{Cipher, Integrity};
 
 // The cipher that a number names.
-#[derive(Drop)]
+#[derive(Clone, Copy)]
 pub enum CipherField {
     Named(Cipher),
     Unknown,
 }
 
 // The integrity transform that the settings of a set-up select, or that the set-up does not fit.
-#[derive(Drop)]
+#[derive(Clone, Copy)]
 pub enum IntegrityField {
     Selected(Integrity),
     Misfit,
 }
 
 // Where the length bytes of master salt and MKI stand, and where the layout of a sender's set-up ends.
-#[derive(Drop)]
+#[derive(Clone, Copy)]
 pub struct Layout {
     pub salt_at: usize,
     pub mki_at: usize,

@@ -1,4 +1,5 @@
 // What the programs say of an answer, on standard output.
+#![tactic(auto)]
 use libc::STDOUT_FILENO;
 use srtp::Refusal;
 

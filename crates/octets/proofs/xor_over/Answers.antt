@@ -1,0 +1,37 @@
+use mathlib.Core.List.{List}
+use mathlib.Core.Path.{◌≡◌, sym, ap, ◌∙◌}
+use Prim.Native.Nat.{ℕ, ◌-◌, ◌≤◌}
+use native.Mathlib.Omega.{arith}
+use borrow.Author.Rules.{rules}
+use lib.Bits.{bit_xor}
+use lib.ListN.{get_or, set, length, take, length-set}
+use Rattle.octets.specs.Buffer.{over}
+use Rattle.octets.specs.Xor.{xors}
+use Rattle.octets.proofs.BufferLaws.{none_over, next-over, all-over}
+use Rattle.octets.proofs.XorLaws.{length-xors, get_or-xors}
+use Rattle.octets.proofs.xor_over.Goals as goal
+
+pub loop-i-init : goal.loop-i-init
+loop-i-init c =
+    let a = c.args in
+    (search rules, search rules, none_over (xors a.a.now a.b.now) a.d.now (omega (arith, length-xors a.a.now a.b.now)))
+
+pub loop-i-preserved : goal.loop-i-preserved
+loop-i-preserved c =
+    let l = c.loop-i in
+    let a = c.args.a.now in
+    let b = c.args.b.now in
+    let d = c.args.d.now in
+    let n : length (xors a b) ≡ length a = omega (arith, length-xors a b) in (
+      search rules,
+      simp length-set (search rules),
+      ap (λ (x : List ℕ). set x l.i (bit_xor (get_or a l.i 0) (get_or b l.i 0))) l.invariant.2
+          ∙ next-over (xors a b) d (omega arith) l.i (bit_xor (get_or a l.i 0) (get_or b l.i 0)) (omega arith) (sym (get_or-xors a b l.i (omega arith) (omega arith))),
+    )
+
+pub returns : goal.returns
+returns c =
+    let a = c.args in
+    c.loop-i.invariant.2
+    ∙ all-over (xors a.a.now a.b.now) a.d.now (omega (arith, length-xors a.a.now a.b.now)) c.loop-i.i
+    (omega (arith, length-xors a.a.now a.b.now))

@@ -11,7 +11,7 @@ use crate::State;
 // The cipher with `nr` rounds, on whatever round key words `w` holds.
 pub fn encrypt_block(t: &[u8; 256], w: &[u32], nr: usize, s: State) -> State
     requires sbox_table { SBoxTable t.now }
-    requires nr_nonzero { (0 < nr) × (4 * nr + 4 ≤ length w.now) }
+    requires sizes { (0 < nr) × (4 * nr + 4 ≤ length w.now) }
     ensures { block result ≡ cipher w.now nr (block s) }
 {
     let mut x = added(s, key_at(w, 0));
@@ -114,7 +114,7 @@ fn shifted(t: &[u8; 256], a: u32, b: u32, c: u32, d: u32) -> u32
 
 pub(crate) fn substituted(t: &[u8; 256], b: u32) -> u8
     requires sbox_table { SBoxTable t.now }
-    requires b_bound { b < 256 }
+    requires byte { b < 256 }
     ensures { result ≡ s_box b }
 {
     t[b as usize]

@@ -18,7 +18,7 @@ pub fn expand_128(t: &[u8; 256], key: [u8; 16]) -> [u32; 44]
 // The words of a key of 4 * nk bytes, over all of `w`.
 pub fn expand_key(t: &[u8; 256], nk: usize, key: &[u8], w: &mut [u32])
     requires sbox_table { SBoxTable t.now }
-    requires le_nk { (4 ≤ nk) × (length key.now ≡ 4 * nk) × (length w.old ≡ 4 * nk + 28) }
+    requires sizes { (4 ≤ nk) × (length key.now ≡ 4 * nk) × (length w.old ≡ 4 * nk + 28) }
     ensures { w.new ≡ key_expansion nk key.now }
 {
     load_key(nk, key, w);
@@ -41,7 +41,7 @@ fn load_key(nk: usize, key: &[u8], w: &mut [u32])
 // The words behind the first `nk`, to the end of `w`.
 fn fill(t: &[u8; 256], nk: usize, w: &mut [u32])
     requires sbox_table { SBoxTable t.now }
-    requires le_nk { (4 ≤ nk) × (length w.old ≡ 4 * nk + 28) }
+    requires sizes { (4 ≤ nk) × (length w.old ≡ 4 * nk + 28) }
     ensures { w.new ≡ expand nk (3 * nk + 28) (take nk w.old) }
 {
     let mut i = nk;
@@ -55,7 +55,7 @@ fn fill(t: &[u8; 256], nk: usize, w: &mut [u32])
 // What is added to word i - nk, where `last` is word i - 1.
 fn temp_of(t: &[u8; 256], nk: usize, i: usize, last: u32) -> u32
     requires sbox_table { SBoxTable t.now }
-    requires nk_nonzero { (0 < nk) × (nk ≤ i) × (i < 11 * nk) }
+    requires in_range { (0 < nk) × (nk ≤ i) × (i < 11 * nk) }
     ensures { result ≡ temp nk i last }
 {
     let m = i % nk;

@@ -10,7 +10,7 @@ use aes::State;
 // The cipher with `nr` rounds, on whatever round key words `w` holds: what aes::encrypt_block answers.
 pub fn encrypt_block(t: &[u32], w: &[u32], nr: usize, s: State) -> State
     requires round_table { RoundTable t.now }
-    requires nr_nonzero { (0 < nr) × (4 * nr + 4 ≤ length w.now) }
+    requires sizes { (0 < nr) × (4 * nr + 4 ≤ length w.now) }
     ensures { block result ≡ cipher w.now nr (block s) }
 {
     finish(t, w, nr, 1, added(s, key_at(w, 0)))
@@ -19,7 +19,7 @@ pub fn encrypt_block(t: &[u32], w: &[u32], nr: usize, s: State) -> State
 // The rest of the cipher with `nr` rounds, from round `from` on, on the state `a` that stands before it.
 pub(crate) fn finish(t: &[u32], w: &[u32], nr: usize, from: usize, a: State) -> State
     requires round_table { RoundTable t.now }
-    requires from_nonzero { (0 < from) × (from ≤ nr) × (4 * nr + 4 ≤ length w.now) }
+    requires sizes { (0 < from) × (from ≤ nr) × (4 * nr + 4 ≤ length w.now) }
     ensures { (s : List ℕ) → block a ≡ rounds w.now (from - 1) (add_round_key s (round_key w.now 0)) → block result ≡ cipher w.now nr s }
 {
     let mut x = a;

@@ -12,7 +12,7 @@ use aes::State;
 // The front of `s` and of the blocks that differ from it in their last byte alone.
 pub fn front_of(t: &[u32], w: &[u32], s: State) -> Front
     requires round_table { RoundTable t.now }
-    requires in_bounds { 12 ≤ length w.now }
+    requires keys { 12 ≤ length w.now }
     ensures { FrontOf t.now w.now s result }
 {
     front_behind(t, added(s, key_at(w, 0)), key_at(w, 1), key_at(w, 2))
@@ -57,7 +57,7 @@ fn behind_two(t: &[u32], f: Front, x: u32) -> State
 pub fn encrypt_one(t: &[u32], w: &[u32], nr: usize, f: Front, s: State, j: u32) -> State
     requires round_table { RoundTable t.now }
     requires front_of { FrontOf t.now w.now s f }
-    requires lt_nr { (2 < nr) × (4 * nr + 4 ≤ length w.now) × (s.c3 % 2 ^ 8 ≡ 0) × (j < 256) }
+    requires sizes { (2 < nr) × (4 * nr + 4 ≤ length w.now) × (s.c3 % 2 ^ 8 ≡ 0) × (j < 256) }
     ensures { block result ≡ cipher w.now nr (block (ending s (s.c3 + j))) }
 {
     let k = w[3];
@@ -69,7 +69,7 @@ pub fn encrypt_one(t: &[u32], w: &[u32], nr: usize, f: Front, s: State, j: u32) 
 pub fn encrypt_pair(t: &[u32], w: &[u32], nr: usize, f: Front, s: State, j: u32) -> Pair
     requires round_table { RoundTable t.now }
     requires front_of { FrontOf t.now w.now s f }
-    requires lt_nr { (2 < nr) × (4 * nr + 4 ≤ length w.now) × (s.c3 % 2 ^ 8 ≡ 0) × (j < 255) }
+    requires sizes { (2 < nr) × (4 * nr + 4 ≤ length w.now) × (s.c3 % 2 ^ 8 ≡ 0) × (j < 255) }
     ensures one { block result.one ≡ cipher w.now nr (block (ending s (s.c3 + j))) }
     ensures two { block result.two ≡ cipher w.now nr (block (ending s (s.c3 + (j + 1)))) }
 {
@@ -88,7 +88,7 @@ pub fn encrypt_pair(t: &[u32], w: &[u32], nr: usize, f: Front, s: State, j: u32)
 // The rest of the cipher, on the states of two blocks behind round 2.
 fn encrypt_behind_two(t: &[u32], w: &[u32], nr: usize, a: State, b: State) -> Pair
     requires round_table { RoundTable t.now }
-    requires lt_nr { (2 < nr) × (4 * nr + 4 ≤ length w.now) }
+    requires sizes { (2 < nr) × (4 * nr + 4 ≤ length w.now) }
     ensures one { (s : List ℕ) → block a ≡ rounds w.now 2 (add_round_key s (round_key w.now 0)) → block result.one ≡ cipher w.now nr s }
     ensures two { (s : List ℕ) → block b ≡ rounds w.now 2 (add_round_key s (round_key w.now 0)) → block result.two ≡ cipher w.now nr s }
 {

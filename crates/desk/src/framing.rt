@@ -55,8 +55,8 @@ fn size(n: u16) -> usize
 }
 
 fn least(a: usize, b: usize) -> usize
-    ensures upper_bound { (result ≤ a) × (result ≤ b) }
-    ensures result_nonzero { 0 < a → 0 < b → 0 < result }
+    ensures most { (result ≤ a) × (result ≤ b) }
+    ensures some { 0 < a → 0 < b → 0 < result }
 {
     if a < b { a } else { b }
 }
@@ -98,8 +98,8 @@ impl Reader {
     // As many bytes of the packet as the input has. Those of one that is too long are counted and not kept.
     fn fill(self, input: &[u8], at: usize, kept: &mut [u8]) -> Step
         requires { (2 ≤ self.got) × (self.got < 2 + self.len) × (at < length input.now) × (2058 ≤ length kept.old) }
-        ensures at_lt_at { (at < result.at) × (result.at ≤ length input.now) }
-        ensures by_index { (f : List ℕ) → Holds self kept.old f → Steps f (drop at input.now) result.next kept.new (drop result.at input.now) }
+        ensures progress { (at < result.at) × (result.at ≤ length input.now) }
+        ensures steps { (f : List ℕ) → Holds self kept.old f → Steps f (drop at input.now) result.next kept.new (drop result.at input.now) }
     {
         let got = self.got;
         let len = self.len;
@@ -125,8 +125,8 @@ impl Reader {
     // A byte of the length, or as many bytes of the packet as there are.
     fn step(self, input: &[u8], at: usize, kept: &mut [u8]) -> Step
         requires { (self.got ≤ 1 + self.len) × (at < length input.now) × (2058 ≤ length kept.old) }
-        ensures at_lt_at { (at < result.at) × (result.at ≤ length input.now) }
-        ensures by_index { (f : List ℕ) → Holds self kept.old f → Steps f (drop at input.now) result.next kept.new (drop result.at input.now) }
+        ensures progress { (at < result.at) × (result.at ≤ length input.now) }
+        ensures steps { (f : List ℕ) → Holds self kept.old f → Steps f (drop at input.now) result.next kept.new (drop result.at input.now) }
     {
         if self.got >= 2 {
             return self.fill(input, at, kept);
@@ -145,8 +145,8 @@ impl Reader {
     // Takes the bytes of `input` from `from` on, up to the end of the first frame whose packet is not too long, or all of them.
     pub fn take(self, input: &[u8], from: usize, kept: &mut [u8]) -> Taken
         requires { (self.got ≤ 1 + self.len) × (from < length input.now) × (2058 ≤ length kept.old) }
-        ensures from_lt_at { (from < result.at) × (result.at ≤ length input.now) × (found_length result.found ≤ 2058) × (result.next.got ≤ 1 + result.next.len) }
-        ensures by_index { (f : List ℕ) → Holds self kept.old f → Takes f (drop from input.now) input.now result kept.new }
+        ensures progress { (from < result.at) × (result.at ≤ length input.now) × (found_length result.found ≤ 2058) × (result.next.got ≤ 1 + result.next.len) }
+        ensures takes { (f : List ℕ) → Holds self kept.old f → Takes f (drop from input.now) input.now result kept.new }
     {
         let mut reader = self;
         let mut at = from;

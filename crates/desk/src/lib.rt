@@ -1,6 +1,7 @@
 // The sale desk: protected media packets in RFC 4571's framing come in, read by read, and the opened ones go out in the same framing.
 // specs/Listening.antt says what the bytes of a key file and an input give as output. A program calls `Desk::start` and `Desk::serve`.
 #![tactic(auto)]
+
 mod framing;
 
 ghost use Rattle.std.specs.Prelude.{◌≡◌, List, [], ℕ, ◌+◌, ◌≤◌, ◌<◌, length, drop};
@@ -143,8 +144,8 @@ impl Progress {
     // Takes the bytes of `input` from `at` on, up to the end of a packet, which is received, or all of them. `out` has `len` bytes already.
     fn turn(self, input: &[u8], at: usize, len: usize, kept: &mut [u8], out: &mut [u8]) -> Turn
         requires { (self.reader.got ≤ 1 + self.reader.len) × (at < length input.now) × (2058 ≤ length kept.old) × (len + 2050 ≤ length out.old) }
-        ensures at_lt_at { (at < result.at) × (result.at ≤ length input.now) × (result.next.reader.got ≤ 1 + result.next.reader.len) }
-        ensures by_index { (f : List ℕ) → Holds self.reader kept.old f → Turns self f (drop at input.now) out.old len result input.now kept.new out.new }
+        ensures progress { (at < result.at) × (result.at ≤ length input.now) × (result.next.reader.got ≤ 1 + result.next.reader.len) }
+        ensures turns { (f : List ℕ) → Holds self.reader kept.old f → Turns self f (drop at input.now) out.old len result input.now kept.new out.new }
     {
         let listener = self.listener;
         let reader = self.reader;
@@ -170,8 +171,8 @@ impl Progress {
     // Takes all of `input`, and writes its output over the start of `out`.
     fn serve(self, input: &[u8], kept: &mut [u8], out: &mut [u8]) -> Turn
         requires { (self.reader.got ≤ 1 + self.reader.len) × (2058 ≤ length kept.old) × (length input.now + 4110 ≤ length out.old) }
-        ensures by_index { (f : List ℕ) → Holds self.reader kept.old f → Writes self f input.now out.old result.len result.next kept.new out.new }
-        ensures len_in_bounds { result.len ≤ length out.new }
+        ensures writes { (f : List ℕ) → Holds self.reader kept.old f → Writes self f input.now out.old result.len result.next kept.new out.new }
+        ensures fits { result.len ≤ length out.new }
     {
         let mut progress = self;
         let mut at = 0;
@@ -194,7 +195,7 @@ impl Progress {
 // Whether a read of `len` bytes is taken at a frame, with `room` bytes to write on.
 fn takes(frame: Frame, len: usize, room: usize) -> bool
     ensures value { result ≡ takes_read frame.reader len room }
-    ensures len_bound { (frame.reader.len < 65536) × (2058 ≤ length frame.kept) }
+    ensures sizes { (frame.reader.len < 65536) × (2058 ≤ length frame.kept) }
 {
     let reader = frame.reader;
     if reader.is_whole() {

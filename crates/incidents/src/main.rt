@@ -1,6 +1,7 @@
 // Replays the losses that this library was built against, and prints the answer to each call in words; of a whole evening it
 // prints how many answers of each kind there were.
 #![tactic(auto)]
+
 mod cases;
 mod counted;
 mod damage;

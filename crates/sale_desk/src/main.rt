@@ -1,6 +1,7 @@
 // The sale desk: reads protected media packets in RFC 4571's framing from standard input, and writes the opened ones in the same framing on
 // standard output. The key file is sale.key in the working directory; where it has not 30 bytes, or can't be read, nothing is written.
 #![tactic(auto)]
+
 ghost use Rattle.std.specs.Prelude.{true, ◌≡◌, ◌+◌, ◌≤◌, length, take};
 ghost use Rattle.desk.specs.Reads.{NotWhole, Serves, StartsUnder};
 
@@ -34,8 +35,8 @@ fn start() -> Start
 // Reads once, whatever comes, and has it served. Nothing that was read is left out.
 fn serve_read(desk: Desk, input: &mut [u8], out: &mut [u8]) -> Round
     requires { NotWhole desk × (length input.old + 4110 ≤ length out.old) }
-    ensures n_in_bounds { (result.n ≤ length input.new) × Serves desk (take result.n input.new) out.old result.served out.new }
-    ensures taken_value { (result.served.taken ≡ true) × NotWhole result.served.next }
+    ensures served { (result.n ≤ length input.new) × Serves desk (take result.n input.new) out.old result.served out.new }
+    ensures taken { (result.served.taken ≡ true) × NotWhole result.served.next }
 {
     let got = libc::read(STDIN_FILENO, input);
     let n = io::count(got, input);

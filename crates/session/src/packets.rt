@@ -35,8 +35,8 @@ impl Session {
     // Writes a media packet over the start of `out`: the header as it is, the payload under the cipher (RFC 3711, 3.1).
     // A protected packet, up to its MKI, comes out plain.
     pub fn cipher_media(self, packet: &[u8], header_len: usize, index: u64, out: &mut [u8])
-        requires header_len_value { (header_len ≡ header_length packet.now) × (header_len ≤ length packet.now) }
-        requires index_bound { (index < 2 ^ 48) × (length packet.now ≤ 2048) × (length packet.now ≤ length out.old) }
+        requires header { (header_len ≡ header_length packet.now) × (header_len ≤ length packet.now) }
+        requires sizes { (index < 2 ^ 48) × (length packet.now ≤ 2048) × (length packet.now ≤ length out.old) }
         ensures { out.new ≡ over (ciphered_media self packet.now index) out.old }
     {
         let settings = self.settings;
@@ -47,8 +47,8 @@ impl Session {
     // Writes a control packet over the start of `out`: 8 bytes as they are, the rest under the cipher if E is set (3.4).
     // A protected packet, up to its index word, comes out plain.
     pub fn cipher_control(self, encrypted: bool, packet: &[u8], index: u64, out: &mut [u8])
-        requires in_bounds { 8 ≤ length packet.now }
-        requires index_bound { (index < 2 ^ 48) × (length packet.now ≤ 2048) × (length packet.now ≤ length out.old) }
+        requires header { 8 ≤ length packet.now }
+        requires sizes { (index < 2 ^ 48) × (length packet.now ≤ 2048) × (length packet.now ≤ length out.old) }
         ensures { out.new ≡ over (ciphered_control self encrypted packet.now index) out.old }
     {
         if !encrypted {
@@ -115,10 +115,10 @@ impl Session {
         index: u64,
         out: &mut [u8],
     ) -> usize
-        requires header_len_value { (header_len ≡ header_length packet.now) × (header_len ≤ length packet.now) }
-        requires index_bound { (index < 2 ^ 48) × (length packet.now ≤ 2048) }
-        requires mki_len_bound { (self.settings.mki_len ≤ 4) × (4 ≤ self.settings.profile.tag_len) × (self.settings.profile.tag_len ≤ 14) }
-        requires tag_len_in_bounds { length packet.now + self.settings.mki_len + self.settings.profile.tag_len ≤ length out.old }
+        requires header { (header_len ≡ header_length packet.now) × (header_len ≤ length packet.now) }
+        requires sizes { (index < 2 ^ 48) × (length packet.now ≤ 2048) }
+        requires lengths { (self.settings.mki_len ≤ 4) × (4 ≤ self.settings.profile.tag_len) × (self.settings.profile.tag_len ≤ 14) }
+        requires room { length packet.now + self.settings.mki_len + self.settings.profile.tag_len ≤ length out.old }
         ensures size { result ≡ length (srtp self packet.now index) }
         ensures written { out.new ≡ over (srtp self packet.now index) out.old }
     {
@@ -136,9 +136,9 @@ impl Session {
 
     // Writes the SRTCP packet (RFC 3711, 3.4) over the start of `out`. Answers its length.
     pub fn protect_control(self, packet: &[u8], index: u64, out: &mut [u8]) -> usize
-        requires in_bounds { (8 ≤ length packet.now) × (length packet.now ≤ 2048) × (index < 2 ^ 31) }
-        requires mki_len_bound { self.settings.mki_len ≤ 4 }
-        requires mki_len_in_bounds { length packet.now + 4 + self.settings.mki_len + 10 ≤ length out.old }
+        requires sizes { (8 ≤ length packet.now) × (length packet.now ≤ 2048) × (index < 2 ^ 31) }
+        requires lengths { self.settings.mki_len ≤ 4 }
+        requires room { length packet.now + 4 + self.settings.mki_len + 10 ≤ length out.old }
         ensures size { result ≡ length (srtcp self (encryptsOf (cipher_of self)) packet.now index) }
         ensures written { out.new ≡ over (srtcp self (encryptsOf (cipher_of self)) packet.now index) out.old }
     {

@@ -1,5 +1,6 @@
 // SHA-1 alone for C and Rust, to measure it by itself (reference/benchmark). SRTP's own boundary is `srtp_c`.
 #![tactic(auto)]
+
 ghost use Rattle.std.specs.Prelude.{◌≡◌};
 ghost use Rattle.sha1_c.specs.Digests.{digest_given};
 

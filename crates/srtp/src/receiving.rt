@@ -196,8 +196,8 @@ impl Receiver {
         authenticated: &[u8],
         tag: &[u8],
     ) -> MediaVerdict
-        requires authenticated_len_bound { (length authenticated.now ≤ 2048) × (4 ≤ length tag.now) }
-        requires bound { (4 ≤ self.session.settings.profile.tag_len) × (self.session.settings.profile.tag_len ≤ 14) }
+        requires portion { (length authenticated.now ≤ 2048) × (4 ≤ length tag.now) }
+        requires tag_len { (4 ≤ self.session.settings.profile.tag_len) × (self.session.settings.profile.tag_len ≤ 14) }
         ensures { result ≡ media_index_verdict self header_len number authenticated.now tag.now }
     {
         let found = self.media_index(number, tag);
@@ -216,8 +216,8 @@ impl Receiver {
         authenticated: &[u8],
         tag: &[u8],
     ) -> MediaVerdict
-        requires index_bound { (index < 2 ^ 48) × (length authenticated.now ≤ 2048) }
-        requires bound { (4 ≤ self.session.settings.profile.tag_len) × (self.session.settings.profile.tag_len ≤ 14) }
+        requires portion { (index < 2 ^ 48) × (length authenticated.now ≤ 2048) }
+        requires tag_len { (4 ≤ self.session.settings.profile.tag_len) × (self.session.settings.profile.tag_len ≤ 14) }
         ensures { result ≡ media_at_verdict self header_len index authenticated.now tag.now }
     {
         let replayed = judge_replay(self.media, index);

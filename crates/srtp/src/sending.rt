@@ -94,8 +94,8 @@ impl Sender {
         number: u16,
         ssrc: u32,
     ) -> MediaVerdict
-        requires header_len_value { (header_len ≡ header_length packet.now) × (number ≡ sequence_number packet.now) × (ssrc ≡ rtp_ssrc packet.now) }
-        requires packet_len_bound { (length packet.now ≤ 2048) × (sender_listed self ≡ true) }
+        requires header { (header_len ≡ header_length packet.now) × (number ≡ sequence_number packet.now) × (ssrc ≡ rtp_ssrc packet.now) }
+        requires listed { (length packet.now ≤ 2048) × (sender_listed self ≡ true) }
         ensures { result ≡ media_verdict_from 3 self packet.now room }
     {
         let session = self.session;
@@ -140,8 +140,8 @@ impl Sender {
 
     // STREAM, ROOM and SPENT.
     fn judge_control_header(self, packet: &[u8], room: usize, ssrc: u32) -> ControlVerdict
-        requires ssrc_value { ssrc ≡ rtcp_ssrc packet.now }
-        requires packet_len_bound { (length packet.now ≤ 2048) × (sender_listed self ≡ true) }
+        requires header { ssrc ≡ rtcp_ssrc packet.now }
+        requires listed { (length packet.now ≤ 2048) × (sender_listed self ≡ true) }
         ensures { result ≡ control_verdict_from 3 self packet.now room }
     {
         let session = self.session;

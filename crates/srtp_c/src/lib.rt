@@ -1,6 +1,7 @@
 // The boundary to C and Rust: contexts as plain structs that the caller keeps and lends, and an exported function for each call of `srtp`.
 // Neither enum nor bool crosses it, so every content of a struct is a value; what a struct stands for is said in specs/Plain.antt.
 #![tactic(auto)]
+
 mod calls;
 mod exports;
 mod plain;

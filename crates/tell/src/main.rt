@@ -1,6 +1,7 @@
 // Reads the answers that `trace` writes from standard input, and says in words what came of each record; then how many packets were sent
 // and let in, and how many calls were refused.
 #![tactic(auto)]
+
 mod reading;
 mod say;
 mod sum;

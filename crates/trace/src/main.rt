@@ -1,5 +1,6 @@
 // Reads the records of a trace from standard input, and writes the answer to each on standard output.
 #![tactic(auto)]
+
 ghost use Rattle.std.specs.Prelude.{◌≤◌, length};
 
 use libc::{STDIN_FILENO, STDOUT_FILENO};

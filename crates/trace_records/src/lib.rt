@@ -1,6 +1,7 @@
 // One record of a trace, answered on slices. A trace holds calls as bytes, big end first: a record is op (1 byte), length (2) and body.
 // Ops 1 and 2 set up the trace's sender and receiver; 3 to 6 send media, send control, receive media and receive control.
 #![tactic(auto)]
+
 mod answers;
 mod calls;
 mod setups;

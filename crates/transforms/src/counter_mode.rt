@@ -59,7 +59,7 @@ pub(crate) fn keystream_in(w: &[u32], first: State, start: usize, out: &mut [u8]
 // series is 256 blocks, whose counters differ in the last byte alone.
 fn series_in(t: &[u32], w: &[u32], first: State, start: usize, at: usize, out: &mut [u8]) -> usize
     requires round_table { RoundTable t.now }
-    requires w_len { (length w.now ≡ 44) × (first.c3 % 2 ^ 16 ≡ 0) × (start + length out.old ≤ 2 ^ 20) × (at < length out.old) }
+    requires sizes { (length w.now ≡ 44) × (first.c3 % 2 ^ 16 ≡ 0) × (start + length out.old ≤ 2 ^ 20) × (at < length out.old) }
     ensures end { (at < result) × (result ≤ length out.old) }
     ensures part { out.new ≡ xored_at at (result - at) (drop at (segment w.now (from_bytes (block first)) start (length out.old))) out.old }
 {
@@ -75,7 +75,7 @@ fn series_in(t: &[u32], w: &[u32], first: State, start: usize, at: usize, out: &
 // XORs the keystream of one series, whose first counter is `first`, from its byte `start` on, into `out`.
 fn series_from(t: &[u32], w: &[u32], first: State, start: usize, out: &mut [u8])
     requires round_table { RoundTable t.now }
-    requires w_len { (length w.now ≡ 44) × (first.c3 % 2 ^ 8 ≡ 0) × (start + length out.old ≤ 4096) }
+    requires sizes { (length w.now ≡ 44) × (first.c3 % 2 ^ 8 ≡ 0) × (start + length out.old ≤ 4096) }
     ensures { out.new ≡ xors out.old (segment w.now (from_bytes (block first)) start (length out.old)) }
 {
     let front = aes_tables::front_of(t, w, first);
@@ -98,7 +98,7 @@ fn blocks_in(
 ) -> usize
     requires round_table { RoundTable t.now }
     requires front_of { FrontOf t.now w.now first front }
-    requires w_len { (length w.now ≡ 44) × (first.c3 % 2 ^ 8 ≡ 0) × (start + length out.old ≤ 4096) × (at < length out.old) }
+    requires sizes { (length w.now ≡ 44) × (first.c3 % 2 ^ 8 ≡ 0) × (start + length out.old ≤ 4096) × (at < length out.old) }
     ensures end { (at < result) × (result ≤ length out.old) }
     ensures part { out.new ≡ xored_at at (result - at) (drop at (segment w.now (from_bytes (block first)) start (length out.old))) out.old }
 {
@@ -117,7 +117,7 @@ fn blocks_in(
 fn keystream_block(t: &[u32], w: &[u32], front: Front, first: State, j: u32) -> State
     requires round_table { RoundTable t.now }
     requires front_of { FrontOf t.now w.now first front }
-    requires w_len { (length w.now ≡ 44) × (first.c3 % 2 ^ 8 ≡ 0) × (j < 256) }
+    requires sizes { (length w.now ≡ 44) × (first.c3 % 2 ^ 8 ≡ 0) × (j < 256) }
     ensures { block result ≡ keystream_block w.now (from_bytes (block first)) j }
 {
     aes_tables::encrypt_one(t, w, 10, front, first, j)
@@ -127,7 +127,7 @@ fn keystream_block(t: &[u32], w: &[u32], front: Front, first: State, j: u32) -> 
 fn keystream_pair(t: &[u32], w: &[u32], front: Front, first: State, j: u32) -> Pair
     requires round_table { RoundTable t.now }
     requires front_of { FrontOf t.now w.now first front }
-    requires w_len { (length w.now ≡ 44) × (first.c3 % 2 ^ 8 ≡ 0) × (j < 255) }
+    requires sizes { (length w.now ≡ 44) × (first.c3 % 2 ^ 8 ≡ 0) × (j < 255) }
     ensures one { block result.one ≡ keystream_block w.now (from_bytes (block first)) j }
     ensures two { block result.two ≡ keystream_block w.now (from_bytes (block first)) (j + 1) }
 {

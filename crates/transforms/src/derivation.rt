@@ -24,7 +24,7 @@ impl SessionKeys {
     // The session keys whose first label is `label`: those of cipher key, authentication key and salt follow each other.
     pub fn derive(t: &[u8; 256], label: u8, key: [u8; 16], salt: [u8; 14]) -> SessionKeys
         requires sbox_table { SBoxTable t.now }
-        requires label_bound { label ≤ 253 }
+        requires label { label ≤ 253 }
         ensures { result ≡ session_keys label key salt }
     {
         let w = aes::expand_128(t, key);

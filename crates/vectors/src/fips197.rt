@@ -73,7 +73,7 @@ fn aes_256(t: &[u8; 256])
 // Prints the cipher of one block, by the S-box and by the table of a round.
 fn block(t: &[u8; 256], name: &[u8], w: &[u32], nr: usize, text: &[u8])
     requires sbox_table { SBoxTable t.now }
-    requires nr_nonzero { (0 < nr) × (4 * nr + 4 ≤ length w.now) × (length text.now ≡ 16) }
+    requires sizes { (0 < nr) × (4 * nr + 4 ≤ length w.now) × (length text.now ≡ 16) }
 {
     let out = aes::encrypt_block(t, w, nr, State::load(text, 0)).bytes();
     hex::print_bytes(name, &out);

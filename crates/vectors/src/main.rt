@@ -1,5 +1,6 @@
 // Runs published examples on the library and prints each result beside its name. The file stdout has the published values.
 #![tactic(auto)]
+
 mod fips180;
 mod fips197;
 mod hex;

@@ -1,5 +1,6 @@
 // What the programs say of an answer, on standard output.
 #![tactic(auto)]
+
 use libc::STDOUT_FILENO;
 use srtp::Refusal;
 

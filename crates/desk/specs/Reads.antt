@@ -110,7 +110,7 @@ NotWhole d = d.frame.reader.got ≤ 1 + d.frame.reader.len
 abbrev pub spare_length : ℕ
 spare_length = 4110
 
-abbrev pub takes_read : Reader → (inputLength room : ℕ) → Bool
+abbrev pub takes_read : Reader → (input_length room : ℕ) → Bool
 takes_read r n room = leb r.got (1 + r.len) && leb (n + spare_length) room
 
 -- a read that is not taken changes nothing

@@ -18,7 +18,7 @@ use Rattle.srtp.specs.declared.Receiver.{Receiver}
 use Rattle.srtp.specs.declared.Refusal.{Refusal}
 use Rattle.srtp.specs.declared.Refusal.TheVariants.{Repeat}
 use Rattle.demands.specs.Runs.{Kind, media, Call, receiving, BytesIn}
-use Rattle.demands.specs.Runs.{after as contextAfter}
+use Rattle.demands.specs.Runs.{after as context_after}
 use Rattle.demands.specs.Words.{Made}
 use Rattle.demands.proofs.Demand2.{sender-demand2}
 use Rattle.evening.specs.Evening.{Genuine, packet_of, bytes_of, Event, genuine, strange, call_of, calls_of, delivered, Comes, outcome_of, HasRoom, IsRefused, Shown}
@@ -114,11 +114,11 @@ module _ (key : List ℕ) (ssrc : ℕ) (run : List Call) (bytes : BytesIn run) w
 
   -- ---- the receiver behind some events
   abbrev reader : List (Event u run) → Receiver
-  reader before = contextAfter receiving r₀ (calls_of before)
+  reader before = context_after receiving r₀ (calls_of before)
 
   reader-next : (before : List (Event u run)) (x : Event u run) → reader (before ++ (x ∷ [])) ≡ next_of (outcome_of 0 before x) (reader before)
   reader-next before x =
-      ap (contextAfter receiving r₀) (calls-append before (x ∷ [])) ∙ after_last receiving r₀ (calls_of before) (call_of x)
+      ap (context_after receiving r₀) (calls-append before (x ∷ [])) ∙ after_last receiving r₀ (calls_of before) (call_of x)
 
   reader-stays : (before : List (Event u run)) (x : Event u run) → IsRefused (outcome_of 0 before x) → reader (before ++ (x ∷ [])) ≡ reader before
   reader-stays before x h =

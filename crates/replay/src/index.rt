@@ -1,6 +1,6 @@
 // The index of a packet (RFC 3711, 3.3.1): 65,536 times the rollover counter plus the RTP sequence number. Nothing wraps at either end.
 ghost use Rattle.std.specs.Prelude.{◌≡◌};
-ghost use Rattle.replay.specs.Index.{index_of, ahead as ahead_of, estimate as estimateOf, placed};
+ghost use Rattle.replay.specs.Index.{index_of, ahead as ahead_of, estimate as estimate_of, placed};
 ghost use Rattle.replay.specs.Index.{next_media, media_start, media_step, control_start, control_step};
 
 // The highest media index, 2^48 - 1.
@@ -91,7 +91,7 @@ impl Highest {
     // Where a media packet with this number lies, for a receiver that was set up with this rollover counter. Equal distances count as
     // ahead, and nothing is added that could pass the largest index.
     pub fn estimate(self, rollover: u32, number: u16) -> Estimate
-        ensures { result ≡ placed (estimateOf rollover number self) }
+        ensures { result ≡ placed (estimate_of rollover number self) }
     {
         let Highest::At(h) = self else {
             return Estimate::Index(index_of(rollover, number));

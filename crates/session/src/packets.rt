@@ -2,7 +2,7 @@
 ghost use Rattle.std.specs.Prelude.{◌≡◌, ◌++◌, ◌+◌, ◌^◌, ◌≤◌, ◌<◌, length, take};
 ghost use Rattle.octets.specs.Buffer.{over, over_at};
 ghost use Rattle.rtp.specs.Rtp.{header_length};
-ghost use Rattle.session.specs.Packets.{ciphered_media, ciphered_control, encrypts as encryptsOf, srtp, srtcp, cipher_of};
+ghost use Rattle.session.specs.Packets.{ciphered_media, ciphered_control, encrypts as encrypts_of, srtp, srtcp, cipher_of};
 ghost use Rattle.session.specs.Steps.{ciphered_behind};
 
 use crate::{Profile, Session, Settings};
@@ -98,7 +98,7 @@ impl Settings {
 
 // E is set exactly when the cipher is AES.
 fn encrypts(cipher: Cipher) -> bool
-    ensures { result ≡ encryptsOf cipher }
+    ensures { result ≡ encrypts_of cipher }
 {
     match cipher {
         Cipher::Aes => true,
@@ -139,8 +139,8 @@ impl Session {
         requires sizes { (8 ≤ length packet.now) × (length packet.now ≤ 2048) × (index < 2 ^ 31) }
         requires lengths { self.settings.mki_len ≤ 4 }
         requires room { length packet.now + 4 + self.settings.mki_len + 10 ≤ length out.old }
-        ensures size { result ≡ length (srtcp self (encryptsOf (cipher_of self)) packet.now index) }
-        ensures written { out.new ≡ over (srtcp self (encryptsOf (cipher_of self)) packet.now index) out.old }
+        ensures size { result ≡ length (srtcp self (encrypts_of (cipher_of self)) packet.now index) }
+        ensures written { out.new ≡ over (srtcp self (encrypts_of (cipher_of self)) packet.now index) out.old }
     {
         let settings = self.settings;
         let profile = settings.profile;

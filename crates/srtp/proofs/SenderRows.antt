@@ -9,7 +9,7 @@ use borrow.Author.Tests.{lt-ltb, le-ltb, lt-leb, le-leb, eq-eqb, ne_eqb, not-tru
 use lib.Dec.{leb}
 use lib.ListN.{length}
 use Rattle.replay.proofs.IndexLaws.{MediaAs, media-as, ControlAs, control-as}
-use Rattle.replay.specs.Index.{max_media_index, max_control_packets, next_media, media_after, media_next, media_step, next_control as nextControlOf, control_after, control_next, control_step}
+use Rattle.replay.specs.Index.{max_media_index, max_control_packets, next_media, media_after, media_next, media_step, next_control as next_control_of, control_after, control_next, control_step}
 use Rattle.replay.specs.declared.index.LastSent.{LastSent}
 use Rattle.replay.specs.declared.index.LastSent.TheVariants as last
 use Rattle.replay.specs.declared.index.NextIndex.{NextIndex}
@@ -148,7 +148,7 @@ module _ (c : Sender) (p : List ℕ) (room x : ℕ) (ex : x ≡ rtcp_ssrc p) whe
     control-room h = rw (← ex, eq-eqb x c.session.settings.ssrc s, control-size, lt-ltb room control_need h)
 
     module _ (h : control_need ≤ room) (r : ControlStep) (f : r ≡ control_step c.control) where
-      control-is : (y : NextControlIndex) → r.index ≡ y → nextControlOf c.control.sent ≡ y
+      control-is : (y : NextControlIndex) → r.index ≡ y → next_control_of c.control.sent ≡ y
       control-is y d = sym (ap (λ (z : ControlStep). z.index) f) ∙ d
 
       pub control-spent : r.index ≡ next_control.Spent → control.Stops Spent ≡ control_verdict_from 3 c p room

@@ -24,9 +24,9 @@ abbrev pub judged_as : Judgement → Judged
 judged_as passes = Passes
 judged_as (stops n) = Stops n
 
-abbrev pub media_as : (headerLen len index : ℕ) → Judgement → MediaVerdict
-media_as headerLen len index passes = media.Opens headerLen len index
-media_as headerLen len index (stops n) = media.Stops n
+abbrev pub media_as : (header_len len index : ℕ) → Judgement → MediaVerdict
+media_as header_len len index passes = media.Opens header_len len index
+media_as header_len len index (stops n) = media.Stops n
 
 abbrev pub control_as : (len : ℕ) → (encrypted : Bool) → (index : ℕ) → Judgement → ControlVerdict
 control_as len e index passes = control.Opens len e index
@@ -63,16 +63,16 @@ media_index_rows c a t index =
     ∷ []
 
 -- ---- and what they answer, with what the steps before found
-abbrev pub media_at_verdict : Receiver → (headerLen index : ℕ) → (a t : List ℕ) → MediaVerdict
-media_at_verdict c headerLen i a t = media_as headerLen (length a) i (judged (media_at_rows c a t i))
+abbrev pub media_at_verdict : Receiver → (header_len index : ℕ) → (a t : List ℕ) → MediaVerdict
+media_at_verdict c header_len i a t = media_as header_len (length a) i (judged (media_at_rows c a t i))
 
 abbrev pub control_at_verdict : Receiver → (len : ℕ) → (encrypted : Bool) → (index : ℕ) → (a t : List ℕ) → ControlVerdict
 control_at_verdict c len e i a t = control_as len e i (judged (control_at_rows c a t i))
 
-abbrev pub media_index_verdict : Receiver → (headerLen number : ℕ) → (a t : List ℕ) → MediaVerdict
-media_index_verdict c headerLen number a t =
+abbrev pub media_index_verdict : Receiver → (header_len number : ℕ) → (a t : List ℕ) → MediaVerdict
+media_index_verdict c header_len number a t =
     let i = media_place c number t in
-    media_as headerLen (length a) (natural i) (judged (media_index_rows c a t i))
+    media_as header_len (length a) (natural i) (judged (media_index_rows c a t i))
 
 -- ---- all rows of a call; where none holds, what opening it needs to know
 unfoldable pub media_verdict : Receiver → (packet : List ℕ) → (room : ℕ) → MediaVerdict

@@ -11,9 +11,9 @@ use Rattle.srtp.specs.declared.sending.ControlVerdict.TheVariants as control
 use Rattle.srtp.specs.Refusals.{Judgement, passes, stops, judged}
 use Rattle.srtp.specs.Calls.{send_media_rows, send_control_rows}
 
-abbrev pub media_as : (headerLen index : ℕ) → Judgement → MediaVerdict
-media_as headerLen index passes = media.Protects headerLen index (media_after index)
-media_as headerLen index (stops n) = media.Stops n
+abbrev pub media_as : (header_len index : ℕ) → Judgement → MediaVerdict
+media_as header_len index passes = media.Protects header_len index (media_after index)
+media_as header_len index (stops n) = media.Stops n
 
 abbrev pub control_as : ControlSender → Judgement → ControlVerdict
 control_as s passes = control.Protects s.sent (control_after s)

@@ -38,8 +38,8 @@ key_at = 6
 
 unfoldable pub layout_of : List ℕ → Layout
 layout_of b =
-    let saltAt = string_end key_at b in
-    let mkiAt = string_end saltAt b in record { salt_at = saltAt; mki_at = mkiAt; end = string_end mkiAt b }
+    let salt_at = string_end key_at b in
+    let mki_at = string_end salt_at b in record { salt_at = salt_at; mki_at = mki_at; end = string_end mki_at b }
 
 -- what the code knows of these places
 pub record Placed (l : Layout) (b : List ℕ) : Type 0 where

@@ -1,0 +1,5 @@
+use borrow.Author.Rules.{rules}
+use Rattle.aes.proofs.cipher.mix_column.Goals as goal
+
+pub returns : goal.returns
+returns c = cc

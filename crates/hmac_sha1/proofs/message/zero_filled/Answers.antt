@@ -1,0 +1,8 @@
+use Rattle.std.proofs.Common.{◌++◌, ◌∙◌, rules}
+use Rattle.hmac_sha1.proofs.MessageLaws.{filled-zeros}
+use Rattle.hmac_sha1.proofs.message.zero_filled.Goals as goal
+
+pub returns : goal.returns
+returns c =
+    let x = c.args in
+    c.fill.ensures ∙ filled-zeros (x.a.now ++ x.b.now)

@@ -1,0 +1,7 @@
+-- `one` meets its contract. Assumes nothing.
+use Rattle.replay.proofs.RowReturns.{one-is}
+use borrow.Author.Rules.{rules}
+use Rattle.replay.proofs.row.one.Goals as goal
+
+pub returns : goal.returns
+returns c = one-is

@@ -8,32 +8,20 @@ use Rattle.hmac_sha1.proofs.block.compress.Goals as goal
 pub returns : goal.returns
 unfolding compress
 returns c =
-    let c₁₁ = c.before in
-    let c₁₀ = c₁₁.before in
-    let c₉ = c₁₀.before in
-    let c₈ = c₉.before in
-    let c₇ = c₈.before in
-    let c₆ = c₇.before in
-    let c₅ = c₆.before in
-    let c₄ = c₅.before in
-    let c₃ = c₄.before in
-    let c₂ = c₃.before in
-    let c₁ = c₂.before in
-    let c₀ = c₁.before in
-    let x = c₀.args in
+    let x = c.args in
     let m = x.m.now in
     let w = schedule m 80 in
-    let r₁ = c₀.load-words.ensures in
-    let s₁ = c₁.rounds.ensures m 16 (omega arith) (omega arith) r₁ in
-    let r₂ = c₂.advance.ensures m 16 refl (omega arith) (omega arith) r₁ in
-    let s₂ = more-rounds w 0 16 4 x.h _ _ zero-le s₁ (c₃.rounds2.ensures m 32 (omega arith) (omega arith) r₂) in
-    let s₃ = more-rounds w 0 20 12 x.h _ _ zero-le s₂ (c₄.rounds3.ensures m 32 (omega arith) (omega arith) r₂) in
-    let r₃ = c₅.advance2.ensures m 32 refl (omega arith) (omega arith) r₂ in
-    let s₄ = more-rounds w 0 32 8 x.h _ _ zero-le s₃ (c₆.rounds4.ensures m 48 (omega arith) (omega arith) r₃) in
-    let s₅ = more-rounds w 0 40 8 x.h _ _ zero-le s₄ (c₇.rounds5.ensures m 48 (omega arith) (omega arith) r₃) in
-    let r₄ = c₈.advance3.ensures m 48 refl (omega arith) (omega arith) r₃ in
-    let s₆ = more-rounds w 0 48 12 x.h _ _ zero-le s₅ (c₉.rounds6.ensures m 64 (omega arith) (omega arith) r₄) in
-    let s₇ = more-rounds w 0 60 4 x.h _ _ zero-le s₆ (c₁₀.rounds7.ensures m 64 (omega arith) (omega arith) r₄) in
-    let r₅ = c₁₁.advance4.ensures m 64 refl (omega arith) (omega arith) r₄ in
+    let r₁ = c.load_words-w.ensures in
+    let s₁ = c.rounds-s.ensures m 16 (omega arith) (omega arith) r₁ in
+    let r₂ = c.advance.ensures m 16 refl (omega arith) (omega arith) r₁ in
+    let s₂ = more-rounds w 0 16 4 x.h _ _ zero-le s₁ (c.rounds-s-2.ensures m 32 (omega arith) (omega arith) r₂) in
+    let s₃ = more-rounds w 0 20 12 x.h _ _ zero-le s₂ (c.rounds-s-3.ensures m 32 (omega arith) (omega arith) r₂) in
+    let r₃ = c.advance-2.ensures m 32 refl (omega arith) (omega arith) r₂ in
+    let s₄ = more-rounds w 0 32 8 x.h _ _ zero-le s₃ (c.rounds-s-4.ensures m 48 (omega arith) (omega arith) r₃) in
+    let s₅ = more-rounds w 0 40 8 x.h _ _ zero-le s₄ (c.rounds-s-5.ensures m 48 (omega arith) (omega arith) r₃) in
+    let r₄ = c.advance-3.ensures m 48 refl (omega arith) (omega arith) r₃ in
+    let s₆ = more-rounds w 0 48 12 x.h _ _ zero-le s₅ (c.rounds-s-6.ensures m 64 (omega arith) (omega arith) r₄) in
+    let s₇ = more-rounds w 0 60 4 x.h _ _ zero-le s₆ (c.rounds-s-7.ensures m 64 (omega arith) (omega arith) r₄) in
+    let r₅ = c.advance-4.ensures m 64 refl (omega arith) (omega arith) r₄ in
     let s₈ = more-rounds w 0 64 16 x.h _ _ zero-le s₇ (c.rounds-s-8.ensures m 80 (omega arith) (omega arith) r₅) in
     c.sum.ensures ∙ ap (λ (s : State). sum s x.h) s₈

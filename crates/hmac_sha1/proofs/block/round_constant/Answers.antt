@@ -15,6 +15,4 @@ unfolding kt
 returns-in-2 c = kt-of c.args.q 2 c.in-2.is
 
 pub returns-in_default : goal.returns-in_default
-returns-in_default c =
-    let r = c.in-0.rest in
-    kt-far c.args.q r.0.0.1 r.0.1 r.1
+returns-in_default c = search kt-far

@@ -16,7 +16,4 @@ unfolding ft
 returns-in-2 c = c.maj.ensures ∙ rw c.in-2.is
 
 pub returns-in_default : goal.returns-in_default
-returns-in_default c =
-    let r = c.in-0.rest in
-    let x = c.args in
-    c.parity-in_default.ensures ∙ ft-far x.q r.0.0.1 r.0.1 r.1 x.x x.y x.z
+returns-in_default c = c.parity-in_default.ensures ∙ search ft-far

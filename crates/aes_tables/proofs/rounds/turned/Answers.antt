@@ -1,0 +1,5 @@
+use borrow.Author.Rules.{rules}
+use Rattle.aes_tables.proofs.rounds.turned.Goals as goal
+
+pub returns : goal.returns
+returns c = cc

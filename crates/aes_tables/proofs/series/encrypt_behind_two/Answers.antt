@@ -28,10 +28,10 @@ returns c =
     let a = c.args in
     let w = a.w.now in
     let l = c.loop-i in
-    let w = let k = c.key_at-k-2 in (
-      (λ s q. all-rounds w s l.i a.nr l.x k.result c.last_round.result (omega arith) k.ensures c.last_round.ensures
-          (l.invariant.2 (add_round_key s (round_key w 0)) q)),
-      (λ s q. all-rounds w s l.i a.nr l.y k.result c.last_round-2.result (omega arith) k.ensures c.last_round-2.ensures
-          (l.invariant.3 (add_round_key s (round_key w 0)) q)),
-    ) in
-    record { one = w.0; two = w.1 }
+    let k = c.key_at-k-2 in
+    record {
+      one = λ s q. all-rounds w s l.i a.nr l.x k.result c.last_round.result (omega arith) k.ensures c.last_round.ensures
+          (l.invariant.2 (add_round_key s (round_key w 0)) q);
+      two = λ s q. all-rounds w s l.i a.nr l.y k.result c.last_round-2.result (omega arith) k.ensures c.last_round-2.ensures
+          (l.invariant.3 (add_round_key s (round_key w 0)) q);
+    }

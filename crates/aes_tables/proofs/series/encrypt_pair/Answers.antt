@@ -10,8 +10,8 @@ pub returns : goal.returns
 returns c =
     let s = c.args.s in
     let v : ℕ = s.c3 + c.args.j in
-    let w = let u : ℕ = s.c3 + (c.args.j + 1) in (
-      c.encrypt_behind_two.ensures.one (block (ending s v)) (ap block c.behind_two.ensures ∙ c.requires.front_of.second v (omega arith)),
-      c.encrypt_behind_two.ensures.two (block (ending s u)) (ap block c.behind_two-2.ensures ∙ c.requires.front_of.second u (omega arith)),
-    ) in
-    record { one = w.0; two = w.1 }
+    let u : ℕ = s.c3 + (c.args.j + 1) in
+    record {
+      one = c.encrypt_behind_two.ensures.one (block (ending s v)) (ap block c.behind_two.ensures ∙ c.requires.front_of.second v (omega arith));
+      two = c.encrypt_behind_two.ensures.two (block (ending s u)) (ap block c.behind_two-2.ensures ∙ c.requires.front_of.second u (omega arith));
+    }

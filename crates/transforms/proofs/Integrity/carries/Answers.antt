@@ -1,0 +1,6 @@
+use borrow.Author.Rules.{rules}
+use Rattle.transforms.proofs.RccLaws.{carries-at}
+use Rattle.transforms.proofs.Integrity.carries.Goals as goal
+
+pub returns : goal.returns
+returns c = search carries-at

@@ -1,0 +1,6 @@
+use borrow.Author.Rules.{rules}
+use Rattle.session.proofs.SetUpReturns.{closed-keys}
+use Rattle.session.proofs.Session.closed.Goals as goal
+
+pub returns : goal.returns
+returns c = search closed-keys

@@ -1,0 +1,6 @@
+use borrow.Author.Rules.{rules}
+use Rattle.srtp.proofs.SetUpReturns.{closed-receiver}
+use Rattle.srtp.proofs.Receiver.closed.Goals as goal
+
+pub returns : goal.returns
+returns c = search closed-receiver

@@ -1,0 +1,7 @@
+-- `at_most` meets its contract. Assumes nothing.
+use borrow.Author.Rules.{rules}
+use Rattle.srtp.proofs.ReceiverReturns.{at-most-at}
+use Rattle.srtp.proofs.receiving.at_most.Goals as goal
+
+pub returns-in-At : goal.returns-in-At
+returns-in-At c = search at-most-at

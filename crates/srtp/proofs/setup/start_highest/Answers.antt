@@ -1,0 +1,6 @@
+use borrow.Author.Rules.{rules}
+use Rattle.srtp.proofs.SetUpReturns.{known-highest}
+use Rattle.srtp.proofs.setup.start_highest.Goals as goal
+
+pub returns : goal.returns
+returns c = search known-highest

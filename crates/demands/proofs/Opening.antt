@@ -75,7 +75,7 @@ module _ (r : Receiver) (p : List ℕ) (i room : ℕ) (seen : Bool) where
       let forged : not (same (tag_of (tag_length s) b) (media_tag s (media_portion s b) i)) ≡ false =
       rw (a, srtp-tag s p i g) (ap not (same_refl (media_tag s c i))) in
       rw index
-      (rows-one {rs = receive_media_rows r b room (pos i)} seen (media_opened r b i)
+      (rows-one seen {rs = receive_media_rows r b room (pos i)} (media_opened r b i)
       (setup beside long beside shape beside stream beside short beside key beside spent beside ap is_old v ∙ young seen
       beside this (ap is_repeat v ∙ repeated seen) refl (forged also none))
       ∙ rw (a, media-twice s i p h.shape))
@@ -106,7 +106,7 @@ module _ (r : Receiver) (p : List ℕ) (i room : ℕ) (seen : Bool) where
       let forged : not (same (tag_of control_tag_length b) (control_tag s (control_received s b))) ≡ false =
       rw (a, srtcp-tag s e p i) (ap not (same_refl (control_tag s f))) in
       rw index
-      (rows-one {rs = receive_control_rows r b room i} seen (control_opened r b i)
+      (rows-one seen {rs = receive_control_rows r b room i} (control_opened r b i)
       (setup beside long beside shape beside stream beside short beside key beside ap is_old v ∙ young seen
       beside this (ap is_repeat v ∙ repeated seen) refl (forged also none))
       ∙ rw (a, t, w, word-flag e i, control-twice s i e p h.shape))

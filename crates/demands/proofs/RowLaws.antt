@@ -24,11 +24,11 @@ pub data OneHolds (t : Bool) (n : Refusal) : List Row → Type 0 where
   this : {r : Row} {rs : List Row} → r.holds ≡ t → r.gives ≡ n → NoneHolds rs → OneHolds t n (r ∷ rs)
   ◌beside◌ : {r : Row} {rs : List Row} → r.holds ≡ false → OneHolds t n rs → OneHolds t n (r ∷ rs)
 
-pub rows-one : {S : Type 0} {rs : List Row} (t : Bool) {n : Refusal} (o : Outcome S) → OneHolds t n rs →
+pub rows-one : {S : Type 0} (t : Bool) {n : Refusal} {rs : List Row} (o : Outcome S) → OneHolds t n rs →
     settled (judged rs) o ≡ cond t (refused n) o
 rows-one true o (this h g hs) = rw (h, g)
 rows-one false o (this h g hs) = rw h (rows_pass o hs)
-rows-one t o (h beside hs) = rw h (rows-one t o hs)
+rows-one t {rs = r ∷ rs} o (h beside hs) = rw h (rows-one t {rs = rs} o hs)
 
 abbrev is_refused : {S : Type 0} → Outcome S → Bool
 is_refused (refused n) = true

@@ -1,0 +1,5 @@
+use borrow.Author.Rules.{rules}
+use Rattle.desk.proofs.framing.Reader.with_length_byte.Goals as goal
+
+pub returns : goal.returns
+returns c = rw c.wide-low.ensures

@@ -1,0 +1,6 @@
+use borrow.Author.Rules.{rules}
+use Rattle.srtp_c.proofs.Returns.{refused-answer}
+use Rattle.srtp_c.proofs.Answer.refused.Goals as goal
+
+pub returns : goal.returns
+returns c = search refused-answer

@@ -1,0 +1,6 @@
+use borrow.Author.Rules.{rules}
+use Rattle.srtp_c.proofs.Returns.{plain-receiver}
+use Rattle.srtp_c.proofs.Receiver.from_core.Goals as goal
+
+pub returns : goal.returns
+returns c = search plain-receiver

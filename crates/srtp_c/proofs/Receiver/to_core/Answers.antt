@@ -1,0 +1,6 @@
+use borrow.Author.Rules.{rules}
+use Rattle.srtp_c.proofs.Returns.{receiver-of}
+use Rattle.srtp_c.proofs.Receiver.to_core.Goals as goal
+
+pub returns : goal.returns
+returns c = search receiver-of

@@ -1,0 +1,6 @@
+use borrow.Author.Rules.{rules}
+use Rattle.srtp_c.proofs.Returns.{plain-sender}
+use Rattle.srtp_c.proofs.Sender.from_core.Goals as goal
+
+pub returns : goal.returns
+returns c = search plain-sender

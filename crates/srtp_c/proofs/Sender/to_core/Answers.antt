@@ -1,0 +1,6 @@
+use borrow.Author.Rules.{rules}
+use Rattle.srtp_c.proofs.Returns.{sender-of}
+use Rattle.srtp_c.proofs.Sender.to_core.Goals as goal
+
+pub returns : goal.returns
+returns c = search sender-of

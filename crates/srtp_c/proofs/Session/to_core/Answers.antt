@@ -1,0 +1,6 @@
+use borrow.Author.Rules.{rules}
+use Rattle.srtp_c.proofs.Returns.{session-of}
+use Rattle.srtp_c.proofs.Session.to_core.Goals as goal
+
+pub returns : goal.returns
+returns c = search session-of

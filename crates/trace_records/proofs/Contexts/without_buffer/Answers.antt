@@ -1,0 +1,6 @@
+use borrow.Author.Rules.{rules}
+use Rattle.trace_records.proofs.AnswerReturns.{bare}
+use Rattle.trace_records.proofs.Contexts.without_buffer.Goals as goal
+
+pub returns : goal.returns
+returns c = search bare

@@ -1,0 +1,6 @@
+use borrow.Author.Rules.{rules}
+use Rattle.trace_records.proofs.AnswerReturns.{head-put}
+use Rattle.trace_records.proofs.answers.put_head.Goals as goal
+
+pub returns : goal.returns
+returns c = search head-put

@@ -1,0 +1,6 @@
+use borrow.Author.Rules.{rules}
+use Rattle.trace_records.proofs.AnswerReturns.{pair_put}
+use Rattle.trace_records.proofs.answers.put_pair.Goals as goal
+
+pub returns : goal.returns
+returns c = search pair_put

@@ -1,0 +1,6 @@
+use borrow.Author.Rules.{rules}
+use Rattle.trace_records.proofs.SetUpReturns.{laid_out}
+use Rattle.trace_records.proofs.setups.layout_of.Goals as goal
+
+pub returns : goal.returns
+returns c = search laid_out

@@ -1,8 +1,6 @@
 -- Examples of FIPS 197 that the definitions give by computation. (The program `vectors` runs the code, which equals the definitions, on
 -- the rest.) Assumes nothing.
-use mathlib.Core.List.{List}
 use mathlib.Core.Path.{◌≡◌, refl}
-use Prim.Native.Nat.{ℕ}
 use Rattle.octets.specs.BigEndian.{to_bytes}
 use Rattle.aes.specs.Aes.{aes}
 use Rattle.aes.specs.Cipher.{cipher}

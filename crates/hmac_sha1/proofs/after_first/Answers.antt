@@ -1,4 +1,4 @@
-use Rattle.std.proofs.Common.{ap, ◌∙◌, rules}
+use Rattle.std.proofs.Common.{ap, ◌∙◌}
 use Rattle.hmac_sha1.specs.Sha1.{initial}
 use Rattle.hmac_sha1.specs.Parts.{words_of}
 use Rattle.hmac_sha1.proofs.after_first.Goals as goal

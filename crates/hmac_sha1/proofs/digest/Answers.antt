@@ -1,4 +1,4 @@
-use Rattle.std.proofs.Common.{◌++◌, refl, ap, ◌∙◌, rules}
+use Rattle.std.proofs.Common.{◌++◌, refl, ap, ◌∙◌}
 use Rattle.hmac_sha1.specs.Sha1.{initial}
 use Rattle.hmac_sha1.specs.Parts.{words_of, sha1_after}
 use Rattle.hmac_sha1.proofs.MessageLaws.{digest-alone}

@@ -1,5 +1,4 @@
 use Rattle.hmac_sha1.proofs.HmacLaws.{key-made}
-use Rattle.std.proofs.Common.{rules}
 use Rattle.hmac_sha1.proofs.key_state.Goals as goal
 
 pub returns : goal.returns

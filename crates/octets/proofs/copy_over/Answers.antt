@@ -1,10 +1,9 @@
 use mathlib.Core.List.{List}
-use mathlib.Core.Path.{◌≡◌, refl, ap, ◌∙◌}
-use Prim.Native.Nat.{ℕ, ◌-◌, ◌≤◌}
+use mathlib.Core.Path.{refl, ap, ◌∙◌}
+use Prim.Native.Nat.{ℕ}
 use native.Mathlib.Omega.{arith}
 use borrow.Author.Rules.{rules}
-use lib.ListN.{length, take, get_or, set, length-set}
-use Rattle.octets.specs.Buffer.{over}
+use lib.ListN.{get_or, set, length-set}
 use Rattle.octets.proofs.BufferLaws.{none_over, next-over, all-over}
 use Rattle.octets.proofs.copy_over.Goals as goal
 

@@ -1,12 +1,8 @@
 -- The loop's invariant: the first i bytes of a stand at the start of d.
-use mathlib.Core.List.{List}
-use mathlib.Core.Path.{◌≡◌, refl, ap, ◌∙◌}
-use Prim.Native.Nat.{ℕ, ◌-◌, ◌≤◌}
-use native.Mathlib.Omega.{arith}
-use borrow.Author.Rules.{rules}
-use lib.ListN.{length, take, get_or, set, length-set}
+use mathlib.Core.Path.{◌≡◌}
+use Prim.Native.Nat.{◌-◌, ◌≤◌}
+use lib.ListN.{length, take}
 use Rattle.octets.specs.Buffer.{over}
-use Rattle.octets.proofs.BufferLaws.{none_over, next-over, all-over}
 use Rattle.octets.proofs.copy_over.Given as goal
 
 abbrev pub invariant-loop-i : goal.invariant-loop-i

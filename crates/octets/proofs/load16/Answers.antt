@@ -1,7 +1,6 @@
 use mathlib.Core.Path.{subst, sym}
 use Prim.Native.Nat.{ℕ, ◌+◌, ◌<◌, ◌^◌}
 use native.Mathlib.Omega.{arith}
-use borrow.Author.Rules.{rules}
 use Rattle.octets.proofs.WordLaws.{Word, one_byte, word-join}
 use Rattle.octets.proofs.load16.Goals as goal
 

@@ -1,11 +1,10 @@
 use mathlib.Core.List.{List}
 use mathlib.Core.Path.{◌≡◌, sym, ap, ◌∙◌}
-use Prim.Native.Nat.{ℕ, ◌-◌, ◌≤◌}
+use Prim.Native.Nat.{ℕ}
 use native.Mathlib.Omega.{arith}
 use borrow.Author.Rules.{rules}
 use lib.Bits.{bit_xor}
-use lib.ListN.{get_or, set, length, take, length-set}
-use Rattle.octets.specs.Buffer.{over}
+use lib.ListN.{get_or, set, length, length-set}
 use Rattle.octets.specs.Xor.{xors}
 use Rattle.octets.proofs.BufferLaws.{none_over, next-over, all-over}
 use Rattle.octets.proofs.XorLaws.{length-xors, get_or-xors}

@@ -1,15 +1,9 @@
 -- The loop's invariant: the first i bytes of the XOR stand at the start of d.
-use mathlib.Core.List.{List}
-use mathlib.Core.Path.{◌≡◌, sym, ap, ◌∙◌}
-use Prim.Native.Nat.{ℕ, ◌-◌, ◌≤◌}
-use native.Mathlib.Omega.{arith}
-use borrow.Author.Rules.{rules}
-use lib.Bits.{bit_xor}
-use lib.ListN.{get_or, set, length, take, length-set}
+use mathlib.Core.Path.{◌≡◌}
+use Prim.Native.Nat.{◌-◌, ◌≤◌}
+use lib.ListN.{length, take}
 use Rattle.octets.specs.Buffer.{over}
 use Rattle.octets.specs.Xor.{xors}
-use Rattle.octets.proofs.BufferLaws.{none_over, next-over, all-over}
-use Rattle.octets.proofs.XorLaws.{length-xors, get_or-xors}
 use Rattle.octets.proofs.xor_over.Given as goal
 
 abbrev pub invariant-loop-i : goal.invariant-loop-i

@@ -1,5 +1,4 @@
 use Rattle.rtp.proofs.PlainReading.{header-long, header-found}
-use borrow.Author.Rules.{rules}
 use Rattle.rtp.proofs.header_up_to.Goals as goal
 
 pub returns-then-packet-len : goal.returns-then-packet-len

@@ -1,6 +1,5 @@
 use mathlib.Core.Path.{◌∙◌}
 use Rattle.rtp.proofs.PlainReading.{rtp-below-12, rtp-version, rtp-plain, rtp-extension-short, rtp-extended}
-use borrow.Author.Rules.{rules}
 use Rattle.rtp.proofs.read_header.Goals as goal
 
 pub returns-then-packet-lt12 : goal.returns-then-packet-lt12

@@ -1,5 +1,4 @@
 use Rattle.rtp.proofs.PlainReading.{rtcp-short, rtcp-uneven, rtcp-version, rtcp-found}
-use borrow.Author.Rules.{rules}
 use Rattle.rtp.proofs.read_rtcp.Goals as goal
 
 pub returns-then-packet-lt8 : goal.returns-then-packet-lt8

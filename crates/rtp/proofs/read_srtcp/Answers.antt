@@ -1,5 +1,4 @@
 use Rattle.rtp.proofs.ProtectedReading.{srtcp-short, srtcp-no-word, to_word, word_fits, srtcp-no-header, srtcp-found}
-use borrow.Author.Rules.{rules}
 use Rattle.rtp.proofs.read_srtcp.Goals as goal
 
 pub returns-in_default : goal.returns-in_default

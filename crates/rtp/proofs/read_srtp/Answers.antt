@@ -1,5 +1,4 @@
 use Rattle.rtp.proofs.ProtectedReading.{srtp-short, to-mki, to-tag, srtp-no-header, srtp-found}
-use borrow.Author.Rules.{rules}
 use Rattle.rtp.proofs.read_srtp.Goals as goal
 
 pub returns-in_default : goal.returns-in_default

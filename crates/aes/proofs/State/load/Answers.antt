@@ -1,4 +1,3 @@
-use borrow.Author.Rules.{rules}
 use Rattle.aes.proofs.StateLaws.{four-words}
 use Rattle.aes.proofs.State.load.Goals as goal
 

@@ -1,4 +1,3 @@
-use borrow.Author.Rules.{rules}
 use Rattle.aes.proofs.StateLaws.{added-words}
 use Rattle.aes.proofs.cipher.round.Goals as goal
 

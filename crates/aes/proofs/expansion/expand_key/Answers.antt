@@ -1,6 +1,5 @@
 use mathlib.Core.Path.{ap, ◌∙◌}
 use Prim.Native.Nat.{◌+◌, ◌*◌}
-use borrow.Author.Rules.{rules}
 use Rattle.aes.specs.KeyExpansion.{expand, key_expansion}
 use Rattle.aes.proofs.expansion.expand_key.Goals as goal
 

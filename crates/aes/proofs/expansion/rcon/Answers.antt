@@ -1,6 +1,5 @@
 use mathlib.Core.List.{List, [], ◌∷◌}
 use Prim.Native.Nat.{ℕ}
-use borrow.Author.Rules.{rules}
 use Rattle.aes.specs.KeyExpansion.{rcon_byte}
 use Rattle.aes.proofs.Table.{entry_of}
 use Rattle.aes.proofs.expansion.rcon.Goals as goal

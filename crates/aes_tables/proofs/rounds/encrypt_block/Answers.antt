@@ -3,7 +3,6 @@ use Rattle.aes.specs.Cipher.{add_round_key, rounds}
 use Rattle.aes.specs.Columns.{block}
 use Rattle.aes.specs.declared.State.{State}
 use Rattle.aes_tables.proofs.RoundLaws.{added-to}
-use borrow.Author.Rules.{rules}
 use Rattle.aes_tables.proofs.rounds.encrypt_block.Goals as goal
 
 pub returns : goal.returns

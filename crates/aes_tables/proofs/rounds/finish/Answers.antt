@@ -1,10 +1,6 @@
-use mathlib.Core.List.{List}
-use mathlib.Core.Path.{◌≡◌}
-use Prim.Native.Nat.{ℕ, ◌-◌, ◌≤◌, ◌<◌}
 use native.Mathlib.Omega.{arith}
 use borrow.Author.Rules.{rules}
-use Rattle.aes.specs.Cipher.{add_round_key, round_key, rounds}
-use Rattle.aes.specs.Columns.{block}
+use Rattle.aes.specs.Cipher.{add_round_key, round_key}
 use Rattle.aes_tables.proofs.RoundLaws.{next-round, all-rounds}
 use Rattle.aes_tables.proofs.rounds.finish.Goals as goal
 

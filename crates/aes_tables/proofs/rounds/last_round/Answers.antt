@@ -1,5 +1,4 @@
 use Rattle.aes_tables.proofs.RoundLaws.{last-half}
-use borrow.Author.Rules.{rules}
 use Rattle.aes_tables.proofs.rounds.last_round.Goals as goal
 
 pub returns : goal.returns

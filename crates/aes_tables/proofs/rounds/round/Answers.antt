@@ -1,5 +1,4 @@
 use mathlib.Core.Path.{ap, ◌∙◌}
-use borrow.Author.Rules.{rules}
 use Rattle.aes.specs.declared.State.{State}
 use Rattle.aes_tables.specs.Rounds.{turned_by}
 use Rattle.aes_tables.proofs.rounds.round.Goals as goal

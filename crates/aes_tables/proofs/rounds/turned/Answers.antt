@@ -1,4 +1,3 @@
-use borrow.Author.Rules.{rules}
 use Rattle.aes_tables.proofs.rounds.turned.Goals as goal
 
 pub returns : goal.returns

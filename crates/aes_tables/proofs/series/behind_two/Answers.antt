@@ -1,7 +1,6 @@
 use mathlib.Core.Path.{ap, ◌∙◌}
 use Prim.Native.Nat.{ℕ}
 use lib.Bits.{bit_xor}
-use borrow.Author.Rules.{rules}
 use Rattle.aes_tables.specs.Rounds.{added_to}
 use Rattle.aes_tables.specs.Series.{spread_by}
 use Rattle.aes_tables.proofs.series.behind_two.Goals as goal

@@ -2,11 +2,8 @@
 use mathlib.Core.List.{List}
 use mathlib.Core.Path.{◌≡◌}
 use Prim.Native.Nat.{ℕ, ◌-◌, ◌≤◌}
-use native.Mathlib.Omega.{arith}
-use borrow.Author.Rules.{rules}
-use Rattle.aes.specs.Cipher.{add_round_key, round_key, rounds}
+use Rattle.aes.specs.Cipher.{rounds}
 use Rattle.aes.specs.Columns.{block}
-use Rattle.aes_tables.proofs.RoundLaws.{next-round, all-rounds}
 use Rattle.aes_tables.proofs.series.encrypt_behind_two.Given as goal
 
 abbrev pub invariant-loop-i : goal.invariant-loop-i

@@ -3,7 +3,6 @@ use Prim.Native.Nat.{ℕ, ◌+◌}
 use native.Mathlib.Omega.{arith}
 use Rattle.aes.specs.Columns.{block}
 use Rattle.aes_tables.specs.Series.{ending}
-use borrow.Author.Rules.{rules}
 use Rattle.aes_tables.proofs.series.encrypt_pair.Goals as goal
 
 pub returns : goal.returns

@@ -1,4 +1,3 @@
-use borrow.Author.Rules.{rules}
 use Rattle.aes_tables.proofs.SeriesLaws.{front-terms}
 use Rattle.aes_tables.proofs.series.front_behind.Goals as goal
 

@@ -1,5 +1,4 @@
 use Rattle.aes_tables.proofs.SeriesLaws.{front-made}
-use borrow.Author.Rules.{rules}
 use Rattle.aes_tables.proofs.series.front_of.Goals as goal
 
 pub returns : goal.returns

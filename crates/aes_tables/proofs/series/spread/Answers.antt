@@ -1,4 +1,3 @@
-use borrow.Author.Rules.{rules}
 use Rattle.aes_tables.proofs.series.spread.Goals as goal
 
 pub returns : goal.returns

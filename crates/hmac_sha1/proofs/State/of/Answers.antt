@@ -1,5 +1,4 @@
 use Rattle.hmac_sha1.proofs.MessageLaws.{words-read}
-use Rattle.std.proofs.Common.{rules}
 use Rattle.hmac_sha1.proofs.State.of.Goals as goal
 
 pub returns : goal.returns

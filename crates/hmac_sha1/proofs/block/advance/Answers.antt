@@ -1,5 +1,4 @@
-use Rattle.std.proofs.Common.{◌≡◌, ℕ, ◌+◌, ◌-◌, ◌%◌, ◌≤◌, List, add-zero, add_assoc, arith, rules}
-use Rattle.hmac_sha1.specs.Parts.{Ring}
+use Rattle.std.proofs.Common.{◌≡◌, ◌+◌, ◌%◌, add-zero, add_assoc, arith, rules}
 use Rattle.hmac_sha1.proofs.ScheduleLaws.{ring-mixed}
 use Rattle.hmac_sha1.proofs.block.advance.Goals as goal
 

@@ -1,7 +1,6 @@
 -- The loop's invariant: if the words before W_t were in the ring, where t is a multiple of 16, those before W_{t+i} are.
-use Rattle.std.proofs.Common.{◌≡◌, ℕ, ◌+◌, ◌-◌, ◌%◌, ◌≤◌, List, add-zero, add_assoc, arith, rules}
+use Rattle.std.proofs.Common.{◌≡◌, ℕ, ◌+◌, ◌-◌, ◌%◌, ◌≤◌, List}
 use Rattle.hmac_sha1.specs.Parts.{Ring}
-use Rattle.hmac_sha1.proofs.ScheduleLaws.{ring-mixed}
 use Rattle.hmac_sha1.proofs.block.advance.Given as goal
 
 abbrev pub invariant-loop-i : goal.invariant-loop-i

@@ -1,5 +1,5 @@
 -- Behind each call: r is what the ring holds, s the state after the rounds so far.
-use Rattle.std.proofs.Common.{refl, ap, ◌∙◌, zero-le, arith, rules}
+use Rattle.std.proofs.Common.{refl, ap, ◌∙◌, zero-le, arith}
 use Rattle.hmac_sha1.specs.declared.State.{State}
 use Rattle.hmac_sha1.specs.Sha1.{schedule, sum, compress}
 use Rattle.hmac_sha1.proofs.RoundLaws.{more-rounds}

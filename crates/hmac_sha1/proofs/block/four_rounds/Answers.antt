@@ -1,4 +1,4 @@
-use Rattle.std.proofs.Common.{refl, ◌∙◌, add-zero, lit<, rules}
+use Rattle.std.proofs.Common.{refl, ◌∙◌, add-zero, lit<}
 use Rattle.hmac_sha1.specs.Sha1.{rounds}
 use Rattle.hmac_sha1.proofs.RoundLaws.{ring-round}
 use Rattle.hmac_sha1.proofs.block.four_rounds.Goals as goal

@@ -1,5 +1,4 @@
-use Rattle.std.proofs.Common.{◌≡◌, ◌-◌, ◌%◌, ◌≤◌, replicate, refl, arith, rules}
-use Rattle.hmac_sha1.specs.Parts.{Ring}
+use Rattle.std.proofs.Common.{◌≡◌, ◌%◌, replicate, refl, arith, rules}
 use Rattle.hmac_sha1.proofs.ScheduleLaws.{ring-empty, ring-load}
 use Rattle.hmac_sha1.proofs.block.load_words.Goals as goal
 

@@ -1,7 +1,6 @@
 -- The loop's invariant: the first t words went into the ring.
-use Rattle.std.proofs.Common.{◌≡◌, ◌-◌, ◌%◌, ◌≤◌, replicate, refl, arith, rules}
+use Rattle.std.proofs.Common.{◌-◌, ◌≤◌}
 use Rattle.hmac_sha1.specs.Parts.{Ring}
-use Rattle.hmac_sha1.proofs.ScheduleLaws.{ring-empty, ring-load}
 use Rattle.hmac_sha1.proofs.block.load_words.Given as goal
 
 abbrev pub invariant-loop-t : goal.invariant-loop-t

@@ -1,5 +1,5 @@
 -- Rattle proves this with no file. With one, a wrong place is an error here, and not only in the functions that call it.
-use Rattle.std.proofs.Common.{◌≡◌, rules}
+use Rattle.std.proofs.Common.{◌≡◌}
 use Rattle.hmac_sha1.specs.Parts.{mixed_in}
 use Rattle.hmac_sha1.proofs.block.mixed.Goals as goal
 

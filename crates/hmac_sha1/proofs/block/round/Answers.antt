@@ -1,4 +1,4 @@
-use Rattle.std.proofs.Common.{◌*◌, rules}
+use Rattle.std.proofs.Common.{◌*◌}
 use Rattle.hmac_sha1.specs.Sha1.{rotl, ft, kt, round}
 use Rattle.hmac_sha1.proofs.WordLaws.{sum-order}
 use Rattle.hmac_sha1.proofs.block.round.Goals as goal

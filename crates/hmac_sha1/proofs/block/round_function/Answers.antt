@@ -1,4 +1,4 @@
-use Rattle.std.proofs.Common.{◌∙◌, rules}
+use Rattle.std.proofs.Common.{◌∙◌}
 use Rattle.hmac_sha1.specs.Sha1.{ft}
 use Rattle.hmac_sha1.proofs.RoundLaws.{ft-far}
 use Rattle.hmac_sha1.proofs.block.round_function.Goals as goal

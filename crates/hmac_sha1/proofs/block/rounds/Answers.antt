@@ -1,6 +1,5 @@
-use Rattle.std.proofs.Common.{◌≡◌, ℕ, ◌+◌, ◌-◌, ◌%◌, ◌≤◌, List, arith, rules}
+use Rattle.std.proofs.Common.{◌≡◌, ◌-◌, arith}
 use Rattle.hmac_sha1.specs.Sha1.{schedule, rounds}
-use Rattle.hmac_sha1.specs.Parts.{Ring}
 use Rattle.hmac_sha1.proofs.RoundLaws.{more-rounds}
 use Rattle.hmac_sha1.proofs.block.rounds.Goals as goal
 

@@ -1,8 +1,7 @@
 -- The loop's invariant: v is s after the rounds from `from` to t.
-use Rattle.std.proofs.Common.{◌≡◌, ℕ, ◌+◌, ◌-◌, ◌%◌, ◌≤◌, List, arith, rules}
+use Rattle.std.proofs.Common.{◌≡◌, ℕ, ◌+◌, ◌-◌, ◌%◌, ◌≤◌, List}
 use Rattle.hmac_sha1.specs.Sha1.{schedule, rounds}
 use Rattle.hmac_sha1.specs.Parts.{Ring}
-use Rattle.hmac_sha1.proofs.RoundLaws.{more-rounds}
 use Rattle.hmac_sha1.proofs.block.rounds.Given as goal
 
 abbrev pub invariant-loop-t : goal.invariant-loop-t

@@ -1,4 +1,3 @@
-use Rattle.std.proofs.Common.{rules}
 use Rattle.hmac_sha1.proofs.block.sum.Goals as goal
 
 pub returns : goal.returns

@@ -1,5 +1,4 @@
 use Rattle.hmac_sha1.proofs.MessageLaws.{filled-parts}
-use Rattle.std.proofs.Common.{rules}
 use Rattle.hmac_sha1.proofs.message.fill.Goals as goal
 
 pub returns : goal.returns

@@ -1,4 +1,4 @@
-use Rattle.std.proofs.Common.{◌≡◌, length, set, sym, ap, ◌∙◌, rules}
+use Rattle.std.proofs.Common.{ap, ◌∙◌}
 use Rattle.hmac_sha1.specs.Sha1.{compress}
 use Rattle.hmac_sha1.specs.Parts.{words_of}
 use Rattle.hmac_sha1.proofs.MessageLaws.{digest-padded, digest-hashed}

@@ -1,5 +1,4 @@
 use Rattle.hmac_sha1.proofs.MessageLaws.{five-words}
-use Rattle.std.proofs.Common.{rules}
 use Rattle.hmac_sha1.proofs.message.put_digest.Goals as goal
 
 pub returns : goal.returns

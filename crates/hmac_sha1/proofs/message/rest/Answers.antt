@@ -1,4 +1,4 @@
-use Rattle.std.proofs.Common.{ℕ, List, [], ◌++◌, refl, ap, ◌∙◌, append-nil, rules}
+use Rattle.std.proofs.Common.{ℕ, List, [], ◌++◌, refl, ap, ◌∙◌, append-nil}
 use Rattle.hmac_sha1.specs.Sha1.{padding, hash_all}
 use Rattle.hmac_sha1.specs.Parts.{words_of}
 use Rattle.hmac_sha1.proofs.MessageLaws.{hash-rest}

@@ -1,4 +1,4 @@
-use Rattle.std.proofs.Common.{◌-◌, length, sym, refl, ap, ◌∙◌, arith, length-take-le, rules}
+use Rattle.std.proofs.Common.{◌-◌, length, sym, refl, ap, ◌∙◌, arith, length-take-le}
 use Rattle.hmac_sha1.specs.Sha1.{padding}
 use Rattle.hmac_sha1.specs.Parts.{words_of}
 use Rattle.hmac_sha1.proofs.MessageLaws.{filled-zeros, hash-joint}

@@ -1,5 +1,4 @@
-use Rattle.std.proofs.Common.{◌≡◌, ℕ, ◌-◌, ◌≤◌, refl, ap, ◌∙◌, arith, rules}
-use Rattle.hmac_sha1.specs.declared.State.{State}
+use Rattle.std.proofs.Common.{ℕ, refl, ap, ◌∙◌, arith, rules}
 use Rattle.hmac_sha1.specs.Sha1.{hash_value, hash_all}
 use Rattle.hmac_sha1.specs.Parts.{words_of}
 use Rattle.hmac_sha1.proofs.MessageLaws.{next-part, length_part}

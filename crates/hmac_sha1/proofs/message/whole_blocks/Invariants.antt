@@ -1,9 +1,8 @@
 -- The loop's invariant: h holds the hash value after the first i blocks of m.
-use Rattle.std.proofs.Common.{◌≡◌, ℕ, ◌-◌, ◌≤◌, refl, ap, ◌∙◌, arith, rules}
+use Rattle.std.proofs.Common.{◌≡◌, ◌-◌, ◌≤◌}
 use Rattle.hmac_sha1.specs.declared.State.{State}
-use Rattle.hmac_sha1.specs.Sha1.{hash_value, hash_all}
+use Rattle.hmac_sha1.specs.Sha1.{hash_value}
 use Rattle.hmac_sha1.specs.Parts.{words_of}
-use Rattle.hmac_sha1.proofs.MessageLaws.{next-part, length_part}
 use Rattle.hmac_sha1.proofs.message.whole_blocks.Given as goal
 
 abbrev pub invariant-loop-i : goal.invariant-loop-i

@@ -1,4 +1,4 @@
-use Rattle.std.proofs.Common.{◌++◌, ◌∙◌, rules}
+use Rattle.std.proofs.Common.{◌++◌, ◌∙◌}
 use Rattle.hmac_sha1.proofs.MessageLaws.{filled-zeros}
 use Rattle.hmac_sha1.proofs.message.zero_filled.Goals as goal
 

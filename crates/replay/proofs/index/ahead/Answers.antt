@@ -1,6 +1,5 @@
 -- `ahead` meets its contract: the masks are remainders. Assumes nothing.
 use Rattle.replay.proofs.IndexReturns.{mask-le, ahead-is}
-use borrow.Author.Rules.{rules}
 use Rattle.replay.proofs.index.ahead.Goals as goal
 
 pub overflow_sub-result : goal.overflow_sub-result

@@ -1,6 +1,5 @@
 -- `one` meets its contract. Assumes nothing.
 use Rattle.replay.proofs.RowReturns.{one-is}
-use borrow.Author.Rules.{rules}
 use Rattle.replay.proofs.row.one.Goals as goal
 
 pub returns : goal.returns

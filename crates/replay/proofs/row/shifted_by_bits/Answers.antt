@@ -1,10 +1,4 @@
-use mathlib.Core.Path.{◌≡◌, refl}
-use mathlib.Core.List.{◌++◌}
-use Prim.Native.Nat.{◌-◌, ◌≤◌}
-use lib.ListN.{length, take, drop}
-use Rattle.replay.specs.Row.{word_count}
-use Rattle.replay.specs.Window.{window_length}
-use Rattle.replay.proofs.RowLaws.{carried}
+use mathlib.Core.Path.{refl}
 use Rattle.replay.proofs.RowReturns.{fitted, carry-on, carried-all}
 use borrow.Author.Rules.{rules}
 use Rattle.replay.proofs.row.shifted_by_bits.Goals as goal

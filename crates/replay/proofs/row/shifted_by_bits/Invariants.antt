@@ -1,13 +1,11 @@
 -- `shifted_by_bits` meets its contract. The loop: what is written and what the rest of the words will give are the whole. Assumes nothing.
-use mathlib.Core.Path.{◌≡◌, refl}
+use mathlib.Core.Path.{◌≡◌}
 use mathlib.Core.List.{◌++◌}
 use Prim.Native.Nat.{◌-◌, ◌≤◌}
 use lib.ListN.{length, take, drop}
 use Rattle.replay.specs.Row.{word_count}
 use Rattle.replay.specs.Window.{window_length}
 use Rattle.replay.proofs.RowLaws.{carried}
-use Rattle.replay.proofs.RowReturns.{fitted, carry-on, carried-all}
-use borrow.Author.Rules.{rules}
 use Rattle.replay.proofs.row.shifted_by_bits.Given as goal
 
 abbrev pub invariant-loop-j : goal.invariant-loop-j

@@ -5,8 +5,6 @@ use Prim.Native.Nat.{◌-◌, ◌≤◌}
 use lib.ListN.{length, take, replicate}
 use Rattle.replay.specs.Row.{word_count}
 use Rattle.replay.specs.Window.{window_length}
-use Rattle.replay.proofs.RowReturns.{fitted, lifted-none, lift-on, lifted-all}
-use borrow.Author.Rules.{rules}
 use Rattle.replay.proofs.row.shifted_by_words.Given as goal
 
 abbrev pub invariant-loop-j : goal.invariant-loop-j

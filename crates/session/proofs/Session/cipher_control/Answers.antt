@@ -1,4 +1,3 @@
-use borrow.Author.Rules.{rules}
 use Rattle.session.proofs.CipherReturns.{control-behind, control-clear}
 use Rattle.session.proofs.Session.cipher_control.Goals as goal
 

@@ -1,4 +1,3 @@
-use borrow.Author.Rules.{rules}
 use Rattle.session.proofs.CipherReturns.{media-behind}
 use Rattle.session.proofs.Session.cipher_media.Goals as goal
 

@@ -1,4 +1,3 @@
-use borrow.Author.Rules.{rules}
 use Rattle.session.proofs.SetUpReturns.{closed-keys}
 use Rattle.session.proofs.Session.closed.Goals as goal
 

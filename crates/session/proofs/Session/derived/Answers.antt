@@ -1,4 +1,3 @@
-use borrow.Author.Rules.{rules}
 use Rattle.session.proofs.SetUpReturns.{session-derived}
 use Rattle.session.proofs.Session.derived.Goals as goal
 

@@ -1,11 +1,9 @@
 use mathlib.Core.Bool.{Bool}
 use mathlib.Core.Path.{◌∙◌, ap, ◌≡◌}
-use native.Mathlib.Omega.{arith}
-use lib.ListN.{length-take, length}
+use lib.ListN.{length}
 use Rattle.octets.specs.Buffer.{over}
 use Rattle.rtp.specs.Protected.{index_word}
 use Rattle.session.specs.Packets.{encrypts, cipher_of, ciphered_control}
-use Rattle.transforms.proofs.TagLaws.{length-control_tag}
 use Rattle.session.proofs.PacketReturns.{control-written}
 use borrow.Author.Rules.{rules}
 use Rattle.session.proofs.Session.protect_control.Goals as goal

@@ -1,7 +1,6 @@
-use mathlib.Core.Path.{◌≡◌, ap, ◌∙◌}
+use mathlib.Core.Path.{◌≡◌}
 use native.Mathlib.Omega.{arith}
-use lib.ListN.{length-take, length}
-use Rattle.transforms.proofs.RccLaws.{length-integrity_tag}
+use lib.ListN.{length}
 use Rattle.session.proofs.PacketReturns.{media-written}
 use borrow.Author.Rules.{rules}
 use Rattle.session.proofs.Session.protect_media.Goals as goal

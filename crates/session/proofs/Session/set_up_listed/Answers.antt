@@ -1,4 +1,3 @@
-use borrow.Author.Rules.{rules}
 use Rattle.session.proofs.SetUpReturns.{listed-key, listed-salt, listed-rest}
 use Rattle.session.proofs.Session.set_up_listed.Goals as goal
 

@@ -1,5 +1,4 @@
 use Rattle.session.proofs.CipherReturns.{wrote-behind}
-use borrow.Author.Rules.{rules}
 use Rattle.session.proofs.Settings.cipher_behind.Goals as goal
 
 pub returns : goal.returns

@@ -1,7 +1,7 @@
 use mathlib.Core.Path.{◌≡◌}
 use native.Mathlib.Omega.{arith}
 use borrow.Author.Rules.{rules}
-use lib.ListN.{length-take, length}
+use lib.ListN.{length}
 use lib.Seq.{length-take-le}
 use Rattle.session.proofs.Settings.finish.Goals as goal
 

@@ -1,4 +1,3 @@
-use borrow.Author.Rules.{rules}
 use Rattle.session.proofs.PacketReturns.{both-put}
 use Rattle.session.proofs.packets.put_both.Goals as goal
 

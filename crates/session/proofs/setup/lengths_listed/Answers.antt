@@ -1,4 +1,3 @@
-use borrow.Author.Rules.{rules}
 use Rattle.session.proofs.SetUpReturns.{listed-long, listed-tag}
 use Rattle.session.proofs.setup.lengths_listed.Goals as goal
 

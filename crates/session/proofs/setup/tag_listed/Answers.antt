@@ -1,4 +1,3 @@
-use borrow.Author.Rules.{rules}
 use Rattle.session.proofs.SetUpReturns.{listed-short, listed-whole, listed-no-rate, listed-rate}
 use Rattle.session.proofs.setup.tag_listed.Goals as goal
 

@@ -1,4 +1,3 @@
-use borrow.Author.Rules.{rules}
 use Rattle.transforms.proofs.RccLaws.{carries-at}
 use Rattle.transforms.proofs.Integrity.carries.Goals as goal
 

@@ -1,4 +1,3 @@
-use borrow.Author.Rules.{rules}
 use Rattle.transforms.proofs.DerivationLaws.{keys-together}
 use Rattle.transforms.proofs.SessionKeys.derive.Goals as goal
 

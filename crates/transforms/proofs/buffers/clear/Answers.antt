@@ -1,11 +1,10 @@
 use mathlib.Core.List.{List}
 use mathlib.Core.Path.{◌≡◌, sym, ap, ◌∙◌}
-use Prim.Native.Nat.{ℕ, ◌-◌, ◌≤◌}
+use Prim.Native.Nat.{ℕ}
 use native.Mathlib.Omega.{arith}
 use borrow.Author.Rules.{rules}
-use lib.ListN.{length, take, replicate, set, length-set, length-replicate}
+use lib.ListN.{length, replicate, set, length-set, length-replicate}
 use Rattle.octets.proofs.BufferLaws.{over-whole, none_over, next-over, all-over}
-use Rattle.octets.specs.Buffer.{over}
 use Rattle.transforms.proofs.XoredLaws.{get_or-zeros}
 use Rattle.transforms.proofs.buffers.clear.Goals as goal
 

@@ -1,6 +1,6 @@
 use mathlib.Core.List.{List}
 use mathlib.Core.Path.{◌≡◌, sym, ap, ◌∙◌}
-use Prim.Native.Nat.{ℕ, ◌-◌, ◌≤◌}
+use Prim.Native.Nat.{ℕ}
 use native.Mathlib.Omega.{arith}
 use borrow.Author.Rules.{rules}
 use lib.Bits.{bit_xor}
@@ -8,7 +8,6 @@ use lib.ListN.{get_or, set, length, take, length-set}
 use lib.Seq.{length-take-le}
 use Rattle.octets.proofs.BufferLaws.{none_over, next-over, all-over}
 use Rattle.octets.proofs.XorLaws.{length-xors, get_or-xors}
-use Rattle.octets.specs.Buffer.{over}
 use Rattle.octets.specs.Xor.{xors}
 use Rattle.transforms.proofs.XoredLaws.{rest_over}
 use Rattle.transforms.proofs.buffers.xor_in.Goals as goal

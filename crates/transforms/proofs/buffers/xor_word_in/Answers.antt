@@ -1,5 +1,4 @@
 use Rattle.transforms.proofs.XoredLaws.{word_in}
-use borrow.Author.Rules.{rules}
 use Rattle.transforms.proofs.buffers.xor_word_in.Goals as goal
 
 pub returns : goal.returns

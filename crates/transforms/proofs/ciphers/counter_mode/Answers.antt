@@ -1,5 +1,4 @@
 use Rattle.transforms.proofs.EncipherLaws.{counter-mode}
-use borrow.Author.Rules.{rules}
 use Rattle.transforms.proofs.ciphers.counter_mode.Goals as goal
 
 pub returns : goal.returns

@@ -1,6 +1,5 @@
 use mathlib.Core.Path.{refl}
 use Rattle.transforms.proofs.EncipherLaws.{aes-text, no_text}
-use borrow.Author.Rules.{rules}
 use Rattle.transforms.proofs.ciphers.encipher.Goals as goal
 
 pub returns-in-Aes : goal.returns-in-Aes

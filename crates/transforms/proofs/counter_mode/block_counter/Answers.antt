@@ -1,6 +1,5 @@
 use mathlib.Core.Path.{refl}
 use native.Mathlib.Omega.{arith}
-use borrow.Author.Rules.{rules}
 use Rattle.transforms.proofs.CounterLaws.{block_words}
 use Rattle.transforms.proofs.counter_mode.block_counter.Goals as goal
 

@@ -13,5 +13,8 @@ returns c =
     let x = c.args in
     let n = c.smaller-n in
     let k = c.bytes-b in
-    record { end = search rules; part = part_in x.out.now k.result _ x.at x.from n.result (omega arith) c.xor_in.ensures
-          ∙ ap (λ (b : List ℕ). xored_at x.at (x.at + n.result - x.at) (drop x.from b) x.out.now) k.ensures }
+    record {
+      end = search rules;
+      part = part_in x.out.now k.result _ x.at x.from n.result (omega arith) c.xor_in.ensures
+          ∙ ap (λ (b : List ℕ). xored_at x.at (x.at + n.result - x.at) (drop x.from b) x.out.now) k.ensures;
+    }

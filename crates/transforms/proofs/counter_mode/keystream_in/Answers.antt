@@ -1,11 +1,9 @@
-use mathlib.Core.Path.{◌≡◌}
-use Prim.Native.Nat.{◌-◌, ◌≤◌}
 use native.Mathlib.Omega.{arith}
 use borrow.Author.Rules.{rules}
 use lib.ListN.{length}
 use Rattle.aes.specs.Columns.{block}
 use Rattle.octets.specs.BigEndian.{from_bytes}
-use Rattle.transforms.specs.Steps.{segment, xored_at}
+use Rattle.transforms.specs.Steps.{segment}
 use Rattle.transforms.proofs.XoredLaws.{xored-none}
 use Rattle.transforms.proofs.SegmentLaws.{next-part, all-parts}
 use Rattle.transforms.proofs.counter_mode.keystream_in.Goals as goal

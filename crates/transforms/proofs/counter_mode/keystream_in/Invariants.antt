@@ -1,14 +1,10 @@
 -- The loop's invariant: the first at bytes of the segment, counted from its byte start, are XORed into the start of out.
 use mathlib.Core.Path.{◌≡◌}
 use Prim.Native.Nat.{◌-◌, ◌≤◌}
-use native.Mathlib.Omega.{arith}
-use borrow.Author.Rules.{rules}
 use lib.ListN.{length}
 use Rattle.aes.specs.Columns.{block}
 use Rattle.octets.specs.BigEndian.{from_bytes}
 use Rattle.transforms.specs.Steps.{segment, xored_at}
-use Rattle.transforms.proofs.XoredLaws.{xored-none}
-use Rattle.transforms.proofs.SegmentLaws.{next-part, all-parts}
 use Rattle.transforms.proofs.counter_mode.keystream_in.Given as goal
 
 abbrev pub invariant-loop-at : goal.invariant-loop-at

@@ -14,13 +14,19 @@ returns-then-out-at-ge32 c =
     let x = c.args in
     let k : 16 + 16 ≡ x.at + 32 - x.at = omega arith in
     let z : 0 ≡ x.from = omega arith in
-    record { end = search rules; part = xored-both x.at 16 16 (block x.k.one) (block x.k.two) x.out.now _ _ refl (omega arith) c.words_in.ensures c.words_in-then-out-at-ge32.ensures
-          ∙ ap₂ (λ (n i : ℕ). xored_at x.at n (drop i (block x.k.one ++ block x.k.two)) x.out.now) k z }
+    record {
+      end = search rules;
+      part = xored-both x.at 16 16 (block x.k.one) (block x.k.two) x.out.now _ _ refl (omega arith) c.words_in.ensures c.words_in-then-out-at-ge32.ensures
+          ∙ ap₂ (λ (n i : ℕ). xored_at x.at n (drop i (block x.k.one ++ block x.k.two)) x.out.now) k z;
+    }
 
 pub returns : goal.returns
 returns c =
     let x = c.args in
     let a = c.block_in-behind in
     let b = c.block_in in
-    record { end = pair_end x.from x.at a.result b.result (length x.out.now) _ (omega arith) (omega arith) (search rules) a.ensures.end b.ensures.end; part = pair-in x.out.now _ _ (block x.k.one) (block x.k.two) x.from x.at a.result b.result refl (omega arith) (omega arith) a.ensures.end
-          (omega arith) a.ensures.part b.ensures.part }
+    record {
+      end = pair_end x.from x.at a.result b.result (length x.out.now) _ (omega arith) (omega arith) (search rules) a.ensures.end b.ensures.end;
+      part = pair-in x.out.now _ _ (block x.k.one) (block x.k.two) x.from x.at a.result b.result refl (omega arith) (omega arith) a.ensures.end
+          (omega arith) a.ensures.part b.ensures.part;
+    }

@@ -3,7 +3,6 @@ use mathlib.Core.Path.{refl}
 use native.Mathlib.Omega.{arith}
 use Rattle.octets.specs.BigEndian.{to_bytes}
 use Rattle.transforms.proofs.XoredLaws.{xored-both}
-use borrow.Author.Rules.{rules}
 use Rattle.transforms.proofs.counter_mode.words_in.Goals as goal
 
 pub returns : goal.returns

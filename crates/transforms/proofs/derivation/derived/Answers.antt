@@ -1,6 +1,5 @@
 use lib.ListN.{length}
 use Rattle.transforms.proofs.DerivationLaws.{derived-in}
-use borrow.Author.Rules.{rules}
 use Rattle.transforms.proofs.derivation.derived.Goals as goal
 
 pub returns : goal.returns

@@ -3,7 +3,6 @@ use mathlib.Core.Path.{sym, ap, ◌∙◌}
 use Rattle.hmac_sha1.specs.Hmac.{hmac_with}
 use Rattle.transforms.specs.Tag.{control_tag}
 use Rattle.transforms.proofs.TagLaws.{whole-tag}
-use borrow.Author.Rules.{rules}
 use Rattle.transforms.proofs.tag.control_tag.Goals as goal
 
 pub returns : goal.returns

@@ -6,7 +6,6 @@ use Rattle.octets.specs.Buffer.{over_at}
 use Rattle.hmac_sha1.specs.Hmac.{hmac_with}
 use Rattle.transforms.specs.Tag.{rollover_counter, media_tag}
 use Rattle.transforms.proofs.TagLaws.{whole-tag}
-use borrow.Author.Rules.{rules}
 use Rattle.transforms.proofs.tag.mac.Goals as goal
 
 pub returns : goal.returns

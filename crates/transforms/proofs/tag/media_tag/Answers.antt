@@ -1,5 +1,4 @@
 use Rattle.transforms.proofs.RccLaws.{tag-carried, tag-plain}
-use borrow.Author.Rules.{rules}
 use Rattle.transforms.proofs.tag.media_tag.Goals as goal
 
 pub returns-then-carries : goal.returns-then-carries

@@ -1,7 +1,6 @@
 use native.Mathlib.Omega.{arith}
 use lib.ListN.{length-take}
 use Rattle.transforms.proofs.RccLaws.{counter-joined}
-use borrow.Author.Rules.{rules}
 use Rattle.transforms.proofs.tag.put_counter.Goals as goal
 
 pub slice_bounds-copy_over-end-2 : goal.slice_bounds-copy_over-end-2

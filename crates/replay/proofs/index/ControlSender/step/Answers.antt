@@ -1,6 +1,5 @@
 -- `ControlSender::step` meets its contract: each way out by its law. Assumes nothing.
 use Rattle.replay.proofs.IndexReturns.{control-spent, control-index}
-use borrow.Author.Rules.{rules}
 use Rattle.replay.proofs.index.ControlSender.step.Goals as goal
 
 pub returns-then-self-ge-MAX_CONTROL_PACKETS : goal.returns-then-self-ge-MAX_CONTROL_PACKETS

@@ -2,7 +2,6 @@
 -- number that shows it. Assumes nothing.
 use Rattle.replay.proofs.IndexReturns.{no-highest, ahead-spent, ahead-index, behind-old, behind-spent, behind-index}
 use native.Mathlib.Omega.{arith}
-use borrow.Author.Rules.{rules}
 use Rattle.replay.proofs.index.Highest.estimate.Goals as goal
 
 pub returns-in_default : goal.returns-in_default

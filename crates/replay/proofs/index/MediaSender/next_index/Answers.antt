@@ -2,7 +2,6 @@
 -- number that shows it. Assumes nothing.
 use Rattle.replay.proofs.IndexReturns.{first-index, no_step, far-step, step-spent, step-index}
 use native.Mathlib.Omega.{arith}
-use borrow.Author.Rules.{rules}
 use Rattle.replay.proofs.index.MediaSender.next_index.Goals as goal
 
 pub returns-in_default : goal.returns-in_default

@@ -1,6 +1,5 @@
 -- `MediaSender::step` meets its contract: each way out by its law. Assumes nothing.
 use Rattle.replay.proofs.IndexReturns.{stepped-index, stepped-order, stepped-spent}
-use borrow.Author.Rules.{rules}
 use Rattle.replay.proofs.index.MediaSender.step.Goals as goal
 
 pub returns-in-Index : goal.returns-in-Index

@@ -1,6 +1,5 @@
 -- `Window::mark` meets its contract. Assumes nothing.
 use Rattle.replay.proofs.WindowReturns.{mark-both}
-use borrow.Author.Rules.{rules}
 use Rattle.replay.proofs.window.Window.mark.Goals as goal
 
 pub returns : goal.returns

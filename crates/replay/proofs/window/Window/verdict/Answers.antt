@@ -2,7 +2,6 @@
 -- number that shows it. Assumes nothing.
 use Rattle.replay.proofs.WindowReturns.{verdict-first, verdict-ahead, verdict-old, verdict-repeat, verdict-new}
 use native.Mathlib.Omega.{arith}
-use borrow.Author.Rules.{rules}
 use Rattle.replay.proofs.window.Window.verdict.Goals as goal
 
 pub returns-in_default : goal.returns-in_default

@@ -1,6 +1,6 @@
 use mathlib.Core.Path.{sym, ◌∙◌}
 use native.Mathlib.Omega.{arith}
-use Rattle.desk.proofs.DeskLaws.{kept-length, takes_whole, takes-fitting, takes_none}
+use Rattle.desk.proofs.DeskLaws.{takes_whole, takes-fitting, takes_none}
 use borrow.Author.Rules.{rules}
 use Rattle.desk.proofs.takes.Goals as goal
 

@@ -1,5 +1,4 @@
 use native.Mathlib.Omega.{arith}
-use borrow.Author.Rules.{rules}
 use Rattle.sha1_c.proofs.Returns.{too_long, in_reach}
 use Rattle.sha1_c.proofs.tindrabek_sha1.Goals as goal
 

@@ -1,5 +1,4 @@
 use Rattle.desk.proofs.DeskLaws.{keyed-with}
-use borrow.Author.Rules.{rules}
 use Rattle.desk.proofs.Desk.keyed.Goals as goal
 
 pub returns : goal.returns

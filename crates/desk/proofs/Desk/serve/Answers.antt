@@ -3,7 +3,6 @@ use Rattle.desk.proofs.DeskLaws.{is-taken, taken-cut, taken-room, declines, serv
 use Rattle.desk.proofs.ReaderLaws.{stands}
 use mathlib.Core.Bool.{not}
 use mathlib.Core.Path.{ap}
-use borrow.Author.Rules.{rules}
 use Rattle.desk.proofs.Desk.serve.Goals as goal
 
 pub returns-then-not-takes : goal.returns-then-not-takes

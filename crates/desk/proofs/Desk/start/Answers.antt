@@ -3,7 +3,6 @@ use native.Mathlib.Omega.{arith}
 use lib.ListN.{replicate}
 use Rattle.desk.specs.Listening.{start}
 use Rattle.desk.proofs.DeskLaws.{starts-not, starts-ready}
-use borrow.Author.Rules.{rules}
 use Rattle.desk.proofs.Desk.start.Goals as goal
 
 pub returns-then-key-ne-KEY_FILE_LEN : goal.returns-then-key-ne-KEY_FILE_LEN

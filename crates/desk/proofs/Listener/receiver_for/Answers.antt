@@ -1,5 +1,4 @@
 use Rattle.desk.proofs.ListenerLaws.{receiver-fresh}
-use borrow.Author.Rules.{rules}
 use Rattle.desk.proofs.Listener.receiver_for.Goals as goal
 
 pub returns : goal.returns

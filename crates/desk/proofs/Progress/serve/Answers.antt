@@ -1,10 +1,6 @@
-use mathlib.Core.List.{List}
-use mathlib.Core.Path.{◌≡◌, refl}
-use Prim.Native.Nat.{ℕ, ◌+◌, ◌-◌, ◌≤◌}
+use mathlib.Core.Path.{refl}
 use native.Mathlib.Omega.{arith}
 use borrow.Author.Rules.{rules}
-use lib.ListN.{length}
-use Rattle.desk.specs.Reads.{Holds, Turns}
 use Rattle.desk.proofs.DeskLaws.{turns-nothing, turns_more, turns-room, writes-all}
 use Rattle.desk.proofs.ReaderLaws.{stands}
 use Rattle.desk.proofs.Progress.serve.Goals as goal

@@ -1,13 +1,9 @@
 -- The loop's invariant: `out` has the output of the bytes taken, and what is left of the input has the rest. The measure is what is left.
 use mathlib.Core.List.{List}
-use mathlib.Core.Path.{◌≡◌, refl}
+use mathlib.Core.Path.{◌≡◌}
 use Prim.Native.Nat.{ℕ, ◌+◌, ◌-◌, ◌≤◌}
-use native.Mathlib.Omega.{arith}
-use borrow.Author.Rules.{rules}
 use lib.ListN.{length}
 use Rattle.desk.specs.Reads.{Holds, Turns}
-use Rattle.desk.proofs.DeskLaws.{turns-nothing, turns_more, turns-room, writes-all}
-use Rattle.desk.proofs.ReaderLaws.{stands}
 use Rattle.desk.proofs.Progress.serve.Given as goal
 
 abbrev pub invariant-loop-at : goal.invariant-loop-at

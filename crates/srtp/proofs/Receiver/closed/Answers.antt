@@ -1,4 +1,3 @@
-use borrow.Author.Rules.{rules}
 use Rattle.srtp.proofs.SetUpReturns.{closed-receiver}
 use Rattle.srtp.proofs.Receiver.closed.Goals as goal
 

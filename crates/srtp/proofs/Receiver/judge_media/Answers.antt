@@ -3,7 +3,6 @@ use mathlib.Core.Bool.{true}
 use mathlib.Core.Path.{◌≡◌, sym, ◌∙◌}
 use native.Mathlib.Omega.{arith}
 use borrow.Author.Rules.{rules}
-use borrow.Author.Tests.{not-false}
 use lib.ListN.{length}
 use Rattle.srtp.specs.Contexts.{receiver_listed}
 use Rattle.srtp.proofs.ReceiveMediaRows.{Media, media-setup, media-long, media-shape, media-trailer, front-short, tag-long, media-address, media-index}

@@ -1,7 +1,6 @@
 -- `Receiver::judge_media_at` meets its contract: each way out by its law. Assumes nothing.
 use mathlib.Core.Bool.{not}
 use mathlib.Core.Path.{ap}
-use borrow.Author.Rules.{rules}
 use Rattle.srtp.proofs.ReceiveMediaRows.{media-replayed, media-forged, media-opens}
 use Rattle.srtp.proofs.Receiver.judge_media_at.Goals as goal
 

@@ -1,5 +1,4 @@
 -- `Receiver::listed` meets its contract: each way out by its law. Assumes nothing.
-use borrow.Author.Rules.{rules}
 use Rattle.srtp.proofs.ReceiverReturns.{listed-settings, listed-media, listed-control}
 use Rattle.srtp.proofs.Receiver.listed.Goals as goal
 

@@ -1,6 +1,5 @@
 -- `Receiver::media_index` meets its contract: each way out by its law. Assumes nothing.
 use native.Mathlib.Omega.{arith}
-use borrow.Author.Rules.{rules}
 use Rattle.srtp.proofs.ReceiveMediaRows.{media-carried, media-estimated}
 use Rattle.srtp.proofs.Receiver.media_index.Goals as goal
 

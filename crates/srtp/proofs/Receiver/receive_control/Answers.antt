@@ -1,12 +1,7 @@
 -- `Receiver::receive_control` meets its contract: what its caller sees is the outcome of the definition. Assumes nothing.
-use mathlib.Core.Bool.{Bool}
-use mathlib.Core.Path.{◌≡◌, sym, ap}
-use Prim.Native.Nat.{ℕ}
-use borrow.Author.Rules.{rules}
-use lib.ListN.{length}
+use mathlib.Core.Path.{sym, ap}
 use Rattle.replay.specs.declared.window.Marked.{Marked}
-use Rattle.srtp.specs.declared.receiving.ControlVerdict.TheVariants as verdict
-use Rattle.srtp.proofs.ReceiveControlRows.{Opens, control-refused, control-passed, control-shows}
+use Rattle.srtp.proofs.ReceiveControlRows.{control-refused, control-passed, control-shows}
 use Rattle.srtp.proofs.ReceiverReturns.{shows-refused}
 use Rattle.srtp.proofs.Receiver.receive_control.Goals as goal
 

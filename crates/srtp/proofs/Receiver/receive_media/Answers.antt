@@ -1,11 +1,7 @@
 -- `Receiver::receive_media` meets its contract: what its caller sees is the outcome of the definition. Assumes nothing.
-use mathlib.Core.Path.{◌≡◌, sym, ap}
-use Prim.Native.Nat.{ℕ}
-use borrow.Author.Rules.{rules}
-use lib.ListN.{length}
+use mathlib.Core.Path.{sym, ap}
 use Rattle.replay.specs.declared.window.Marked.{Marked}
-use Rattle.srtp.specs.declared.receiving.MediaVerdict.TheVariants as verdict
-use Rattle.srtp.proofs.ReceiveMediaRows.{Opens, media-refused, media-passed, media-shows}
+use Rattle.srtp.proofs.ReceiveMediaRows.{media-refused, media-passed, media-shows}
 use Rattle.srtp.proofs.ReceiverReturns.{shows-refused}
 use Rattle.srtp.proofs.Receiver.receive_media.Goals as goal
 

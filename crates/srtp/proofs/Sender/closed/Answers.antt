@@ -1,4 +1,3 @@
-use borrow.Author.Rules.{rules}
 use Rattle.srtp.proofs.SetUpReturns.{closed-sender}
 use Rattle.srtp.proofs.Sender.closed.Goals as goal
 

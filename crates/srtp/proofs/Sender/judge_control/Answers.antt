@@ -1,6 +1,4 @@
 use mathlib.Core.Path.{sym, ◌∙◌}
-use borrow.Author.Rules.{rules}
-use borrow.Author.Tests.{not-false}
 use Rattle.rtp.proofs.RtcpLaws.{rtcp-read}
 use Rattle.srtp.proofs.SenderRows.{control-setup, control-long, control-shape, control-header}
 use Rattle.srtp.proofs.Sender.judge_control.Goals as goal

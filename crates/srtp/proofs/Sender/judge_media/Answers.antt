@@ -1,6 +1,4 @@
 use mathlib.Core.Path.{sym, ◌∙◌}
-use borrow.Author.Rules.{rules}
-use borrow.Author.Tests.{not-false}
 use Rattle.rtp.proofs.RtpLaws.{rtp-read}
 use Rattle.srtp.proofs.SenderRows.{media-setup, media-long, media-shape, media-header}
 use Rattle.srtp.proofs.Sender.judge_media.Goals as goal

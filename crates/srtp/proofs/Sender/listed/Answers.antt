@@ -1,4 +1,3 @@
-use borrow.Author.Rules.{rules}
 use Rattle.srtp.proofs.SenderRows.{unlisted-settings, unlisted-last, listed-marks}
 use Rattle.srtp.proofs.Sender.listed.Goals as goal
 

@@ -1,6 +1,5 @@
 use mathlib.Core.Bool.{not}
 use mathlib.Core.Path.{ap}
-use borrow.Author.Rules.{rules}
 use lib.ListN.{length}
 use Rattle.session.proofs.SetUpLaws.{sizes}
 use Rattle.srtp.proofs.SetUpReturns.{sender-refused, sender-ready}

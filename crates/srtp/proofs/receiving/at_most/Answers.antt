@@ -1,5 +1,4 @@
 -- `at_most` meets its contract. Assumes nothing.
-use borrow.Author.Rules.{rules}
 use Rattle.srtp.proofs.ReceiverReturns.{at-most-at}
 use Rattle.srtp.proofs.receiving.at_most.Goals as goal
 

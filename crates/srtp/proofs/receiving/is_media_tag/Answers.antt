@@ -4,7 +4,6 @@ use native.Mathlib.Omega.{arith}
 use lib.ListN.{length, length-take}
 use Rattle.transforms.proofs.RccLaws.{length-integrity_tag}
 use Rattle.srtp.proofs.ReceiverReturns.{is-media-tag}
-use borrow.Author.Rules.{rules}
 use Rattle.srtp.proofs.receiving.is_media_tag.Goals as goal
 
 pub slice_bounds-whole-end : goal.slice_bounds-whole-end

@@ -1,8 +1,4 @@
 -- `judge_address` meets its contract: each way out by its law. Assumes nothing.
-use mathlib.Core.Path.{◌≡◌}
-use native.Mathlib.Omega.{arith}
-use borrow.Author.Rules.{rules}
-use lib.ListN.{length, length-take}
 use Rattle.srtp.proofs.ReceiverReturns.{address-stream, address_room, address-key, address-passes}
 use Rattle.srtp.proofs.receiving.judge_address.Goals as goal
 

@@ -1,5 +1,4 @@
 -- `judge_replay` meets its contract: each way out by its law. Assumes nothing.
-use borrow.Author.Rules.{rules}
 use Rattle.srtp.proofs.ReceiverReturns.{replay-new, replay-old, replay-repeat}
 use Rattle.srtp.proofs.receiving.judge_replay.Goals as goal
 

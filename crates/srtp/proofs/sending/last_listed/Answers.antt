@@ -1,4 +1,3 @@
-use borrow.Author.Rules.{rules}
 use Rattle.srtp.proofs.SenderRows.{last-at}
 use Rattle.srtp.proofs.sending.last_listed.Goals as goal
 

@@ -1,4 +1,3 @@
-use borrow.Author.Rules.{rules}
 use Rattle.srtp.proofs.SetUpReturns.{known-highest}
 use Rattle.srtp.proofs.setup.start_highest.Goals as goal
 

@@ -1,4 +1,3 @@
-use borrow.Author.Rules.{rules}
 use Rattle.srtp_c.proofs.Returns.{refused-answer}
 use Rattle.srtp_c.proofs.Answer.refused.Goals as goal
 

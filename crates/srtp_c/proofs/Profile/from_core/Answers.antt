@@ -1,4 +1,3 @@
-use borrow.Author.Rules.{rules}
 use Rattle.srtp_c.proofs.Returns.{plain-profile}
 use Rattle.srtp_c.proofs.Profile.from_core.Goals as goal
 

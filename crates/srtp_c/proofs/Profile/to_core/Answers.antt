@@ -1,4 +1,3 @@
-use borrow.Author.Rules.{rules}
 use Rattle.srtp_c.proofs.Returns.{profile-of}
 use Rattle.srtp_c.proofs.Profile.to_core.Goals as goal
 

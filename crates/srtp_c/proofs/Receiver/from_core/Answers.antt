@@ -1,4 +1,3 @@
-use borrow.Author.Rules.{rules}
 use Rattle.srtp_c.proofs.Returns.{plain-receiver}
 use Rattle.srtp_c.proofs.Receiver.from_core.Goals as goal
 

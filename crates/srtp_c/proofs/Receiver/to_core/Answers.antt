@@ -1,4 +1,3 @@
-use borrow.Author.Rules.{rules}
 use Rattle.srtp_c.proofs.Returns.{receiver-of}
 use Rattle.srtp_c.proofs.Receiver.to_core.Goals as goal
 

@@ -1,4 +1,3 @@
-use borrow.Author.Rules.{rules}
 use Rattle.srtp_c.proofs.Returns.{plain-sender}
 use Rattle.srtp_c.proofs.Sender.from_core.Goals as goal
 

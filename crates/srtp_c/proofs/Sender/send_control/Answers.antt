@@ -6,7 +6,6 @@ use Rattle.srtp_c.proofs.PlainLaws.{unnamed-send-control}
 use Rattle.srtp_c.proofs.Returns.{unnamed, all_named, shows-refused, shows-turned}
 use mathlib.Core.Bool.{not}
 use mathlib.Core.Path.{ap}
-use borrow.Author.Rules.{rules}
 use Rattle.srtp_c.proofs.Sender.send_control.Goals as goal
 
 pub returns-then-not-named : goal.returns-then-not-named

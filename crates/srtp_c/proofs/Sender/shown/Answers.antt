@@ -1,4 +1,3 @@
-use borrow.Author.Rules.{rules}
 use Rattle.srtp_c.proofs.Returns.{turned-refused, turned-sent}
 use Rattle.srtp_c.proofs.Sender.shown.Goals as goal
 

@@ -1,4 +1,3 @@
-use borrow.Author.Rules.{rules}
 use Rattle.srtp_c.proofs.Returns.{sender-of}
 use Rattle.srtp_c.proofs.Sender.to_core.Goals as goal
 

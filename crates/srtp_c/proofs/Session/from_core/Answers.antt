@@ -1,4 +1,3 @@
-use borrow.Author.Rules.{rules}
 use Rattle.srtp_c.proofs.Returns.{plain-session}
 use Rattle.srtp_c.proofs.Session.from_core.Goals as goal
 

@@ -1,4 +1,3 @@
-use borrow.Author.Rules.{rules}
 use Rattle.srtp_c.proofs.Returns.{session-of}
 use Rattle.srtp_c.proofs.Session.to_core.Goals as goal
 

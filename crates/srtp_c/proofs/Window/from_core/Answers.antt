@@ -1,4 +1,3 @@
-use borrow.Author.Rules.{rules}
 use Rattle.srtp_c.proofs.Returns.{plain-window}
 use Rattle.srtp_c.proofs.Window.from_core.Goals as goal
 

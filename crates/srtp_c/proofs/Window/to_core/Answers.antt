@@ -1,4 +1,3 @@
-use borrow.Author.Rules.{rules}
 use Rattle.srtp_c.proofs.Returns.{window-of}
 use Rattle.srtp_c.proofs.Window.to_core.Goals as goal
 

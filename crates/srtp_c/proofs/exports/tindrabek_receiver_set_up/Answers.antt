@@ -1,4 +1,3 @@
-use borrow.Author.Rules.{rules}
 use Rattle.srtp_c.proofs.Returns.{receiver-unnamed, receiver-set-up}
 use Rattle.srtp_c.proofs.exports.tindrabek_receiver_set_up.Goals as goal
 

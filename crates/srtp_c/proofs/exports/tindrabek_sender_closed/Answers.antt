@@ -1,6 +1,5 @@
 use mathlib.Core.Path.{ap, ◌∙◌}
 use Rattle.srtp_c.specs.Plain.{plain_sender}
-use borrow.Author.Rules.{rules}
 use Rattle.srtp_c.proofs.exports.tindrabek_sender_closed.Goals as goal
 
 pub returns : goal.returns

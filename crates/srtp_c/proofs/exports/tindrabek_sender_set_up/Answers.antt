@@ -1,4 +1,3 @@
-use borrow.Author.Rules.{rules}
 use Rattle.srtp_c.proofs.Returns.{sender-unnamed, sender-set-up}
 use Rattle.srtp_c.proofs.exports.tindrabek_sender_set_up.Goals as goal
 

@@ -1,4 +1,3 @@
-use borrow.Author.Rules.{rules}
 use Rattle.srtp_c.proofs.Returns.{and_no, and_yes}
 use Rattle.srtp_c.proofs.plain.both_two_cased.Goals as goal
 

@@ -1,4 +1,3 @@
-use borrow.Author.Rules.{rules}
 use Rattle.trace_records.proofs.AnswerReturns.{head-is}
 use Rattle.trace_records.proofs.Contexts.after_sender.Goals as goal
 

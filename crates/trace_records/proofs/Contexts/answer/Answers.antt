@@ -1,4 +1,3 @@
-use borrow.Author.Rules.{rules}
 use Rattle.trace_records.proofs.CallReturns.{body-long, op-1, op-2, op-low, op-high, op-call}
 use Rattle.trace_records.proofs.Contexts.answer.Goals as goal
 

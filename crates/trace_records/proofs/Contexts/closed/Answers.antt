@@ -1,4 +1,3 @@
-use borrow.Author.Rules.{rules}
 use Rattle.trace_records.proofs.AnswerReturns.{closed-both}
 use Rattle.trace_records.proofs.Contexts.closed.Goals as goal
 

@@ -1,4 +1,3 @@
-use borrow.Author.Rules.{rules}
 use Rattle.trace_records.proofs.AnswerReturns.{bare}
 use Rattle.trace_records.proofs.Contexts.without_buffer.Goals as goal
 

@@ -1,4 +1,3 @@
-use borrow.Author.Rules.{rules}
 use Rattle.trace_records.proofs.AnswerReturns.{call-sent, call-refused}
 use Rattle.trace_records.proofs.answers.call_head.Goals as goal
 

@@ -1,4 +1,3 @@
-use borrow.Author.Rules.{rules}
 use Rattle.trace_records.proofs.AnswerReturns.{head-put}
 use Rattle.trace_records.proofs.answers.put_head.Goals as goal
 

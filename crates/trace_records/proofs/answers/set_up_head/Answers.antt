@@ -1,5 +1,4 @@
 use mathlib.Core.Path.{refl}
-use borrow.Author.Rules.{rules}
 use Rattle.trace_records.proofs.AnswerReturns.{set-up-ready, set-up-refused}
 use Rattle.trace_records.proofs.answers.set_up_head.Goals as goal
 

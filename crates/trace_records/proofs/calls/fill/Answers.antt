@@ -1,10 +1,10 @@
-use mathlib.Core.List.{◌++◌, List}
-use mathlib.Core.Path.{◌≡◌, ap, ◌∙◌}
-use Prim.Native.Nat.{◌-◌, ◌≤◌, ℕ}
+use mathlib.Core.List.{List}
+use mathlib.Core.Path.{ap, ◌∙◌}
+use Prim.Native.Nat.{ℕ}
 use native.Mathlib.Omega.{arith}
 use borrow.Author.Fill.{fill_more}
 use borrow.Author.Rules.{rules}
-use lib.ListN.{length, drop, replicate, set, length-set}
+use lib.ListN.{set, length-set}
 use Rattle.trace_records.proofs.CallReturns.{all-filled}
 use Rattle.trace_records.proofs.calls.fill.Goals as goal
 

@@ -1,12 +1,8 @@
 -- The loop's invariant: the first i bytes are A5, and the others are as they were.
-use mathlib.Core.List.{◌++◌, List}
-use mathlib.Core.Path.{◌≡◌, ap, ◌∙◌}
-use Prim.Native.Nat.{◌-◌, ◌≤◌, ℕ}
-use native.Mathlib.Omega.{arith}
-use borrow.Author.Fill.{fill_more}
-use borrow.Author.Rules.{rules}
-use lib.ListN.{length, drop, replicate, set, length-set}
-use Rattle.trace_records.proofs.CallReturns.{all-filled}
+use mathlib.Core.List.{◌++◌}
+use mathlib.Core.Path.{◌≡◌}
+use Prim.Native.Nat.{◌-◌, ◌≤◌}
+use lib.ListN.{length, drop, replicate}
 use Rattle.trace_records.proofs.calls.fill.Given as goal
 
 abbrev pub invariant-loop-i : goal.invariant-loop-i

@@ -1,4 +1,3 @@
-use borrow.Author.Rules.{rules}
 use Rattle.trace_records.proofs.SetUpReturns.{number-unknown, number-known}
 use Rattle.trace_records.proofs.setups.last_number.Goals as goal
 

@@ -1,4 +1,3 @@
-use borrow.Author.Rules.{rules}
 use Rattle.trace_records.proofs.SetUpReturns.{laid_out}
 use Rattle.trace_records.proofs.setups.layout_of.Goals as goal
 

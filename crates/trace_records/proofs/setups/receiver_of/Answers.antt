@@ -1,4 +1,3 @@
-use borrow.Author.Rules.{rules}
 use Rattle.trace_records.proofs.SetUpReturns.{receiver-unknown, receiver-named}
 use Rattle.trace_records.proofs.setups.receiver_of.Goals as goal
 

@@ -1,4 +1,3 @@
-use borrow.Author.Rules.{rules}
 use Rattle.trace_records.proofs.SetUpReturns.{receiver-cut, receiver-known, receiver-fit}
 use Rattle.trace_records.proofs.setups.receiver_settings.Goals as goal
 

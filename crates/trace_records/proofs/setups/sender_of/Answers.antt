@@ -1,4 +1,3 @@
-use borrow.Author.Rules.{rules}
 use Rattle.trace_records.proofs.SetUpReturns.{sender-unknown, sender-named}
 use Rattle.trace_records.proofs.setups.sender_of.Goals as goal
 

@@ -1,4 +1,3 @@
-use borrow.Author.Rules.{rules}
 use Rattle.trace_records.proofs.SetUpReturns.{sender-cut, sender-fit}
 use Rattle.trace_records.proofs.setups.sender_settings.Goals as goal
 

@@ -1,4 +1,3 @@
-use borrow.Author.Rules.{rules}
 use Rattle.trace_records.proofs.SetUpReturns.{settings-none, settings-size, settings-id, settings-length, settings-rate}
 use Rattle.trace_records.proofs.setups.settings_of.Goals as goal
 

@@ -1,4 +1,3 @@
-use borrow.Author.Rules.{rules}
 use Rattle.trace_records.proofs.SetUpReturns.{string-past}
 use Rattle.trace_records.proofs.setups.string_end.Goals as goal
 

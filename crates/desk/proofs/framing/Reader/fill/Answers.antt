@@ -2,7 +2,6 @@ use Prim.Native.Nat.{◌+◌, ◌-◌}
 use mathlib.Core.Path.{refl}
 use native.Mathlib.Omega.{arith}
 use Rattle.desk.proofs.ReaderLaws.{kept-all, kept-over, filled}
-use borrow.Author.Rules.{rules}
 use Rattle.desk.proofs.framing.Reader.fill.Goals as goal
 
 pub returns-then-told-gt-MAX_FRAME_LEN : goal.returns-then-told-gt-MAX_FRAME_LEN

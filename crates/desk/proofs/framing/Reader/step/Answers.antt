@@ -5,7 +5,6 @@ use Rattle.desk.specs.Reads.{Steps}
 use Rattle.desk.specs.declared.framing.Reader.{Reader}
 use native.Mathlib.Omega.{arith}
 use Rattle.desk.proofs.ReaderLaws.{length-step}
-use borrow.Author.Rules.{rules}
 use Rattle.desk.proofs.framing.Reader.step.Goals as goal
 
 pub returns : goal.returns

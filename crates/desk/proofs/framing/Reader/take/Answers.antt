@@ -1,11 +1,8 @@
-use mathlib.Core.List.{List}
-use mathlib.Core.Path.{◌≡◌, refl, sym, ◌∙◌}
-use Prim.Native.Nat.{ℕ, ◌+◌, ◌-◌, ◌≤◌}
+use mathlib.Core.Path.{refl, sym, ◌∙◌}
 use native.Mathlib.Omega.{arith}
 use borrow.Author.Rules.{rules}
-use lib.ListN.{length, drop}
-use Rattle.desk.specs.Reads.{Holds}
-use Rattle.desk.proofs.ReaderLaws.{Came, came-none, came-more, came-past, takes-packet, started-cut, left_cut, takes-nothing}
+use lib.ListN.{drop}
+use Rattle.desk.proofs.ReaderLaws.{came-none, came-more, came-past, takes-packet, started-cut, left_cut, takes-nothing}
 use Rattle.desk.proofs.framing.Reader.take.Goals as goal
 
 pub loop-at-init : goal.loop-at-init

@@ -1,12 +1,10 @@
 -- The loop's invariant: no packet was found so far, and what is left of the input has those that are to be found. The measure is what is left.
 use mathlib.Core.List.{List}
-use mathlib.Core.Path.{◌≡◌, refl, sym, ◌∙◌}
+use mathlib.Core.Path.{◌≡◌}
 use Prim.Native.Nat.{ℕ, ◌+◌, ◌-◌, ◌≤◌}
-use native.Mathlib.Omega.{arith}
-use borrow.Author.Rules.{rules}
 use lib.ListN.{length, drop}
 use Rattle.desk.specs.Reads.{Holds}
-use Rattle.desk.proofs.ReaderLaws.{Came, came-none, came-more, came-past, takes-packet, started-cut, left_cut, takes-nothing}
+use Rattle.desk.proofs.ReaderLaws.{Came}
 use Rattle.desk.proofs.framing.Reader.take.Given as goal
 
 abbrev pub invariant-loop-at : goal.invariant-loop-at

@@ -1,4 +1,3 @@
-use borrow.Author.Rules.{rules}
 use Rattle.desk.proofs.framing.Reader.with_length_byte.Goals as goal
 
 pub returns : goal.returns

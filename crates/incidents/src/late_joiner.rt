@@ -3,6 +3,7 @@
 use crate::packet;
 use crate::packet::Link;
 use session::Profile;
+use std::io;
 use transforms::{Cipher, Integrity};
 
 // A protected packet.
@@ -20,52 +21,67 @@ pub fn link() -> Link {
     Link { sender, receiver }
 }
 
-pub fn run() {
-    words::line(b"a room joins after a rollover, with rollover counter 0, and catches up");
+pub fn run(rt: &impl Print) -> io::Result<()> {
+    words::line(
+        rt,
+        b"a room joins after a rollover, with rollover counter 0, and catches up",
+    )?;
     let mut before = [0u8; LEN];
     let mut behind = [0u8; LEN];
-    let link = link().send(65535, &mut before).send(0, &mut behind);
-    let link = catches_up(link);
-    let link = counter_damaged(link);
-    let link = comes_late(link, &before, &behind);
-    loses_rollovers(link);
+    let link = link()
+        .send(rt, 65535, &mut before)?
+        .send(rt, 0, &mut behind)?;
+    let link = catches_up(rt, link)?;
+    let link = counter_damaged(rt, link)?;
+    let link = comes_late(rt, link, &before, &behind)?;
+    loses_rollovers(rt, link)
 }
 
 // Where the counter is not carried, the index is estimated: with the wrong counter until it was carried, and then with the right one.
-fn catches_up(link: Link) -> Link {
+fn catches_up(rt: &impl Print, link: Link) -> io::Result<Link> {
     let mut first = [0u8; LEN];
     let mut out = [0u8; LEN];
-    let link = link.deliver(1, &mut first);
-    let link = link.deliver(3, &mut out).deliver(4, &mut out);
-    link.receive(1, &first)
+    let link = link.deliver(rt, 1, &mut first)?;
+    let link = link.deliver(rt, 3, &mut out)?.deliver(rt, 4, &mut out)?;
+    link.receive(rt, 1, &first)
 }
 
 // A damaged counter is refused and moves nothing, however far ahead it leads.
-fn counter_damaged(link: Link) -> Link {
-    words::line(b"one bit of the counter is damaged, then the good packet comes, and comes again");
+fn counter_damaged(rt: &impl Print, link: Link) -> io::Result<Link> {
+    words::line(
+        rt,
+        b"one bit of the counter is damaged, then the good packet comes, and comes again",
+    )?;
     let mut good = [0u8; LEN];
-    let link = link.send(6, &mut good);
+    let link = link.send(rt, 6, &mut good)?;
     let mut bad = good;
     bad[16] = bad[16] ^ 1;
-    link.receive(6, &bad).receive(6, &good).receive(6, &good)
+    link.receive(rt, 6, &bad)?
+        .receive(rt, 6, &good)?
+        .receive(rt, 6, &good)
 }
 
 // The packets on both sides of the rollover come 1,024 and 1,023 behind.
-fn comes_late(link: Link, before: &[u8], behind: &[u8]) -> Link {
-    words::line(b"packets that carry the counter come late, behind the window and at its edge");
+fn comes_late(rt: &impl Print, link: Link, before: &[u8], behind: &[u8]) -> io::Result<Link> {
+    words::line(
+        rt,
+        b"packets that carry the counter come late, behind the window and at its edge",
+    )?;
     let mut out = [0u8; LEN];
-    let link = link.deliver(1023, &mut out);
-    link.receive(65535, before).receive(0, behind)
+    let link = link.deliver(rt, 1023, &mut out)?;
+    link.receive(rt, 65535, before)?.receive(rt, 0, behind)
 }
 
 // Nothing comes for two rollovers.
-fn loses_rollovers(link: Link) {
-    words::line(b"two rollovers are lost");
+fn loses_rollovers(rt: &impl Print, link: Link) -> io::Result<()> {
+    words::line(rt, b"two rollovers are lost")?;
     let mut lost = [0u8; LEN];
-    let link = link.send(30000, &mut lost).send(60000, &mut lost);
-    let link = link.send(20000, &mut lost).send(50000, &mut lost);
+    let link = link.send(rt, 30000, &mut lost)?.send(rt, 60000, &mut lost)?;
+    let link = link.send(rt, 20000, &mut lost)?.send(rt, 50000, &mut lost)?;
     let mut early = [0u8; LEN];
     let mut out = [0u8; LEN];
-    let link = link.deliver(10000, &mut early);
-    link.deliver(10002, &mut out).receive(10000, &early);
+    let link = link.deliver(rt, 10000, &mut early)?;
+    link.deliver(rt, 10002, &mut out)?
+        .receive(rt, 10000, &early)?;
+    Ok(())
 }

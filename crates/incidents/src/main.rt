@@ -17,14 +17,16 @@ mod say;
 mod set_ups;
 mod tally;
 
-fn main() {
-    repeats::run();
-    rollover::run();
-    satellite::run();
-    damage::run();
-    late_joiner::run();
-    evening::run();
-    cases::run();
-    ends::run();
-    set_ups::run();
+use std::io;
+
+fn main(rt: HostRuntime) -> io::Result<()> {
+    repeats::run(&rt)?;
+    rollover::run(&rt)?;
+    satellite::run(&rt)?;
+    damage::run(&rt)?;
+    late_joiner::run(&rt)?;
+    evening::run(&rt)?;
+    cases::run(&rt)?;
+    ends::run(&rt)?;
+    set_ups::run(&rt)
 }

@@ -3,6 +3,7 @@
 use crate::say;
 use session::Profile;
 use srtp::{Answer, LastNumber, Receiver, Sender, SenderSetUp};
+use std::io;
 use transforms::{Cipher, Integrity};
 
 pub fn sender() -> Sender {
@@ -55,12 +56,12 @@ pub fn plain(number: u16) -> [u8; 16] {
 }
 
 // Sends the packet with this number, protected into `out`, which is as long as that.
-fn send_into(s: Sender, number: u16, out: &mut [u8]) -> Sender {
+fn send_into(rt: &impl Print, s: Sender, number: u16, out: &mut [u8]) -> io::Result<Sender> {
     let p = plain(number);
     let after = s.send_media(&p, out);
     let answer = after.answer;
-    say::sent(number, answer);
-    after.next
+    say::sent(rt, number, answer)?;
+    Ok(after.next)
 }
 
 // What receiving gave: the answer, whether it let in the packet that was sent, and the next context.
@@ -97,31 +98,37 @@ fn as_sent(answer: Answer, sent: &[u8], opened: &[u8]) -> bool {
     octets::same(sent, opened)
 }
 
-fn receive_from(r: Receiver, number: u16, packet: &[u8]) -> Receiver {
+fn receive_from(rt: &impl Print, r: Receiver, number: u16, packet: &[u8]) -> io::Result<Receiver> {
     let received = open_media(r, number, packet);
     let answer = received.answer;
-    say::received(number, answer);
-    compare(answer, received.as_sent);
-    received.next
+    say::received(rt, number, answer)?;
+    compare(rt, answer, received.as_sent)?;
+    Ok(received.next)
 }
 
 // Says so where a packet was let in and is not the one that was sent.
-fn compare(answer: Answer, as_sent: bool) {
+fn compare(rt: &impl Print, answer: Answer, as_sent: bool) -> io::Result<()> {
     let Answer::Sent { len: _, index: _ } = answer else {
-        return;
+        return Ok(());
     };
     if !as_sent {
-        words::line(b"  but it came out as another packet");
+        words::line(rt, b"  but it came out as another packet")?;
     }
+    Ok(())
 }
 
 // Both with the usual tag, in an array: its length need not be shown by the caller.
-pub fn send(s: Sender, number: u16, out: &mut [u8; 26]) -> Sender {
-    send_into(s, number, out)
+pub fn send(rt: &impl Print, s: Sender, number: u16, out: &mut [u8; 26]) -> io::Result<Sender> {
+    send_into(rt, s, number, out)
 }
 
-pub fn receive(r: Receiver, number: u16, packet: &[u8; 26]) -> Receiver {
-    receive_from(r, number, packet)
+pub fn receive(
+    rt: &impl Print,
+    r: Receiver,
+    number: u16,
+    packet: &[u8; 26],
+) -> io::Result<Receiver> {
+    receive_from(rt, r, number, packet)
 }
 
 // A control packet: a report with nothing in it.
@@ -130,12 +137,12 @@ pub fn report() -> [u8; 8] {
 }
 
 // Protected, it has four bytes of E and index behind it, and ten of tag.
-pub fn send_control(s: Sender, out: &mut [u8; 22]) -> Sender {
+pub fn send_control(rt: &impl Print, s: Sender, out: &mut [u8; 22]) -> io::Result<Sender> {
     let p = report();
     let after = s.send_control(&p, out);
     let answer = after.answer;
-    say::sent_control(answer);
-    after.next
+    say::sent_control(rt, answer)?;
+    Ok(after.next)
 }
 
 pub fn open_control(r: Receiver, packet: &[u8]) -> Received {
@@ -152,12 +159,12 @@ pub fn open_control(r: Receiver, packet: &[u8]) -> Received {
     }
 }
 
-pub fn receive_control(r: Receiver, packet: &[u8; 22]) -> Receiver {
+pub fn receive_control(rt: &impl Print, r: Receiver, packet: &[u8; 22]) -> io::Result<Receiver> {
     let received = open_control(r, packet);
     let answer = received.answer;
-    say::received_control(answer);
-    compare(answer, received.as_sent);
-    received.next
+    say::received_control(rt, answer)?;
+    compare(rt, answer, received.as_sent)?;
+    Ok(received.next)
 }
 
 // A sender and the receiver at the other end.
@@ -177,37 +184,35 @@ impl Link {
     }
 
     // Sends a packet, protected into `out`, which is as long as that.
-    pub fn send(self, number: u16, out: &mut [u8]) -> Link {
+    pub fn send(self, rt: &impl Print, number: u16, out: &mut [u8]) -> io::Result<Link> {
         let sender = self.sender;
-        let sent = send_into(sender, number, out);
+        let sent = send_into(rt, sender, number, out)?;
         let mut link = self;
         link.sender = sent;
-        link
+        Ok(link)
     }
 
     // Receives a packet that was sent before.
-    pub fn receive(self, number: u16, packet: &[u8]) -> Link {
+    pub fn receive(self, rt: &impl Print, number: u16, packet: &[u8]) -> io::Result<Link> {
         let receiver = self.receiver;
-        let received = receive_from(receiver, number, packet);
+        let received = receive_from(rt, receiver, number, packet)?;
         let mut link = self;
         link.receiver = received;
-        link
+        Ok(link)
     }
 
     // Sends a packet and receives it at once.
-    pub fn deliver(self, number: u16, out: &mut [u8]) -> Link {
-        self.send(number, out).receive(number, out)
+    pub fn deliver(self, rt: &impl Print, number: u16, out: &mut [u8]) -> io::Result<Link> {
+        self.send(rt, number, out)?.receive(rt, number, out)
     }
 
     // The packets from number `from` up to, not including, number `to`, with the usual tag.
-    pub fn deliver_all(self, from: u16, to: u16) -> Link {
+    pub fn deliver_all(self, rt: &impl Print, from: u16, to: u16) -> io::Result<Link> {
         let mut link = self;
-        let mut number = from;
-        while number < to {
+        for number in from..to {
             let mut out = [0u8; 26];
-            link = link.deliver(number, &mut out);
-            number += 1;
+            link = link.deliver(rt, number, &mut out)?;
         }
-        link
+        Ok(link)
     }
 }

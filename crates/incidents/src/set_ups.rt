@@ -2,20 +2,25 @@
 use crate::packet::Link;
 use crate::{late_joiner, packet, say};
 use session::{Profile, Session};
+use std::io;
 use transforms::{Cipher, Integrity};
 
-pub fn run() {
-    words::line(b"set-ups with a rate or a tag off the list");
-    set_up(b"rate 0, tag 14", Integrity::Rccm2(0), 14);
-    set_up(b"no rate, tag 14", Integrity::HmacSha1, 14);
-    set_up(b"rate 3, tag 10", Integrity::Rccm2(3), 10);
-    words::line(b"a packet is sent, and then the rate in both contexts is made 0 by hand");
+pub fn run(rt: &impl Print) -> io::Result<()> {
+    words::line(rt, b"set-ups with a rate or a tag off the list")?;
+    set_up(rt, b"rate 0, tag 14", Integrity::Rccm2(0), 14)?;
+    set_up(rt, b"no rate, tag 14", Integrity::HmacSha1, 14)?;
+    set_up(rt, b"rate 3, tag 10", Integrity::Rccm2(3), 10)?;
+    words::line(
+        rt,
+        b"a packet is sent, and then the rate in both contexts is made 0 by hand",
+    )?;
     let mut good = [0u8; 30];
-    let link = without_rate(late_joiner::link().send(3, &mut good));
-    link.receive(3, &good).send(4, &mut good);
+    let link = without_rate(late_joiner::link().send(rt, 3, &mut good)?);
+    link.receive(rt, 3, &good)?.send(rt, 4, &mut good)?;
+    Ok(())
 }
 
-fn set_up(values: &[u8], integrity: Integrity, tag_len: usize) {
+fn set_up(rt: &impl Print, values: &[u8], integrity: Integrity, tag_len: usize) -> io::Result<()> {
     let profile = Profile {
         cipher: Cipher::Aes,
         integrity,
@@ -23,7 +28,7 @@ fn set_up(values: &[u8], integrity: Integrity, tag_len: usize) {
     };
     let made = packet::set_up_sender(profile);
     let answer = made.answer;
-    say::set_up(values, answer);
+    say::set_up(rt, values, answer)
 }
 
 fn without_rate(link: Link) -> Link {

@@ -3,6 +3,7 @@
 ghost use Rattle.std.specs.Prelude.{◌≤◌};
 
 use srtp::{Answer, Refusal};
+use std::io;
 
 // A packet goes by a byte, so that it has its place whichever it is.
 pub const SLOTS: usize = 256;
@@ -69,16 +70,16 @@ impl Tally {
     }
 
     // Packet `k` was sent.
-    pub fn send(self, k: u8, answer: Answer) -> Tally {
+    pub fn send(self, rt: &impl Print, k: u8, answer: Answer) -> io::Result<Tally> {
         let Answer::Sent { len: _, index } = answer else {
-            words::line(b"  but a packet was not sent");
-            return self;
+            words::line(rt, b"  but a packet was not sent")?;
+            return Ok(self);
         };
         let sent = one_more(self.sent);
         let mut tally = self;
         tally.indices[k as usize] = index;
         tally.sent = sent;
-        tally
+        Ok(tally)
     }
 
     // The sequence number of what came.
@@ -90,11 +91,17 @@ impl Tally {
     }
 
     // The answer to what came; `as_sent` says whether it let in the packet that was sent.
-    pub fn receive(self, came: Came, answer: Answer, as_sent: bool) -> Tally {
+    pub fn receive(
+        self,
+        rt: &impl Print,
+        came: Came,
+        answer: Answer,
+        as_sent: bool,
+    ) -> io::Result<Tally> {
         let tally = self.enter(answer);
         match came {
-            Came::Packet(k) => tally.deliver(k, answer, as_sent),
-            Came::Strange => tally.strange(answer),
+            Came::Packet(k) => tally.deliver(rt, k, answer, as_sent),
+            Came::Strange => tally.strange(rt, answer),
         }
     }
 
@@ -110,20 +117,26 @@ impl Tally {
         tally
     }
 
-    fn deliver(self, k: u8, answer: Answer, as_sent: bool) -> Tally {
+    fn deliver(self, rt: &impl Print, k: u8, answer: Answer, as_sent: bool) -> io::Result<Tally> {
         let deliveries = one_more(self.deliveries);
         let mut tally = self;
         tally.deliveries = deliveries;
         if self.delivered[k as usize] == 1 {
-            return tally.again(answer);
+            return tally.again(rt, answer);
         }
         tally.delivered[k as usize] = 1;
         let index = self.indices[k as usize];
-        tally.first(index, answer, as_sent)
+        tally.first(rt, index, answer, as_sent)
     }
 
     // A packet that was sent at this index comes for the first time.
-    fn first(self, index: u64, answer: Answer, as_sent: bool) -> Tally {
+    fn first(
+        self,
+        rt: &impl Print,
+        index: u64,
+        answer: Answer,
+        as_sent: bool,
+    ) -> io::Result<Tally> {
         let packets = one_more(self.packets);
         let mut tally = self;
         tally.packets = packets;
@@ -132,86 +145,87 @@ impl Tally {
             index: let_in,
         } = answer
         else {
-            words::line(b"  but a packet was refused at its first delivery");
-            return tally;
+            words::line(rt, b"  but a packet was refused at its first delivery")?;
+            return Ok(tally);
         };
         if let_in != index {
-            words::line(b"  but a packet was let in as another index");
-            return tally;
+            words::line(rt, b"  but a packet was let in as another index")?;
+            return Ok(tally);
         }
         if !as_sent {
-            words::line(b"  but a packet came out as another");
-            return tally;
+            words::line(rt, b"  but a packet came out as another")?;
+            return Ok(tally);
         }
         let as_sent = one_more(self.as_sent);
         tally.as_sent = as_sent;
-        tally
+        Ok(tally)
     }
 
     // A packet comes that was delivered before.
-    fn again(self, answer: Answer) -> Tally {
+    fn again(self, rt: &impl Print, answer: Answer) -> io::Result<Tally> {
         let Answer::Refused(refusal) = answer else {
-            words::line(b"  but a packet was let in twice");
-            return self;
+            words::line(rt, b"  but a packet was let in twice")?;
+            return Ok(self);
         };
         let Refusal::Repeat = refusal else {
-            words::line(b"  but a repeat was not refused as one");
-            return self;
+            words::line(rt, b"  but a repeat was not refused as one")?;
+            return Ok(self);
         };
         let repeats = one_more(self.repeats);
         let mut tally = self;
         tally.repeats = repeats;
-        tally
+        Ok(tally)
     }
 
-    fn strange(self, answer: Answer) -> Tally {
+    fn strange(self, rt: &impl Print, answer: Answer) -> io::Result<Tally> {
         let strange = one_more(self.strange);
         let mut tally = self;
         tally.strange = strange;
         let Answer::Refused(_) = answer else {
-            words::line(b"  but a strange packet was let in");
-            return tally;
+            words::line(rt, b"  but a strange packet was let in")?;
+            return Ok(tally);
         };
         let refused = one_more(self.refused);
         tally.refused = refused;
-        tally
+        Ok(tally)
     }
 
     // The sums, of packets of this kind.
-    pub fn say(self, kind: &[u8]) {
-        words::text(b"  ");
-        words::text(kind);
-        count(b" packets sent: ", self.sent);
-        words::text(b"  delivered: ");
-        words::number(self.packets);
-        words::text(b" of them, in ");
-        words::number(self.deliveries);
-        words::line(b" deliveries");
+    pub fn say(self, rt: &impl Print, kind: &[u8]) -> io::Result<()> {
+        words::text(rt, b"  ")?;
+        words::text(rt, kind)?;
+        count(rt, b" packets sent: ", self.sent)?;
+        words::text(rt, b"  delivered: ")?;
+        words::number(rt, self.packets)?;
+        words::text(rt, b" of them, in ")?;
+        words::number(rt, self.deliveries)?;
+        words::line(rt, b" deliveries")?;
         count(
+            rt,
             b"  let in at their first delivery, as they were sent: ",
             self.as_sent,
-        );
-        count(b"  refused as repeats: ", self.repeats);
-        words::text(b"  damaged and strange ones refused: ");
-        words::number(self.refused);
-        count(b" of ", self.strange);
-        self.compare();
+        )?;
+        count(rt, b"  refused as repeats: ", self.repeats)?;
+        words::text(rt, b"  damaged and strange ones refused: ")?;
+        words::number(rt, self.refused)?;
+        count(rt, b" of ", self.strange)?;
+        self.compare(rt)
     }
 
     // Whether what was let in is what was delivered.
-    fn compare(self) {
+    fn compare(self, rt: &impl Print) -> io::Result<()> {
         let delivered = self.delivered;
         let let_in = self.let_in;
         if octets::same(&delivered, &let_in) {
-            words::line(b"  the indices let in are those delivered");
+            words::line(rt, b"  the indices let in are those delivered")
         } else {
-            words::line(b"  but the indices let in are not those delivered");
+            words::line(rt, b"  but the indices let in are not those delivered")
         }
     }
 }
 
-fn count(what: &[u8], n: u64) {
-    words::text(what);
-    words::number(n);
-    words::text(b"\n");
+fn count(rt: &impl Print, what: &[u8], n: u64) -> io::Result<()> {
+    words::text(rt, what)?;
+    words::number(rt, n)?;
+    words::text(rt, b"\n")
 }

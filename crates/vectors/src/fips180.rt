@@ -3,18 +3,20 @@
 ghost use Rattle.std.specs.Prelude.{◌≡◌, ◌+◌, ◌≤◌, length};
 
 use crate::hex;
+use std::io;
 
-pub fn run() {
-    message(b"FIPS 180-4 abc", b"abc");
+pub fn run(rt: &impl Print) -> io::Result<()> {
+    message(rt, b"FIPS 180-4 abc", b"abc")?;
     message(
+        rt,
         b"FIPS 180-4 two blocks",
         b"abcdbcdecdefdefgefghfghighijhijkijkljklmklmnlmnomnopnopq",
-    );
-    message(b"FIPS 180-4 empty", b"");
+    )?;
+    message(rt, b"FIPS 180-4 empty", b"")?;
     let mut m = [0u8; 2048];
     count_up(&mut m);
-    lengths(&m);
-    cuts();
+    lengths(rt, &m)?;
+    cuts(rt)
 }
 
 fn count_up(m: &mut [u8]) {
@@ -25,49 +27,46 @@ fn count_up(m: &mut [u8]) {
     }
 }
 
-fn lengths(m: &[u8])
+fn lengths(rt: &impl Print, m: &[u8]) -> io::Result<()>
     requires { length m.now ≡ 2048 }
 {
-    front(m, 0);
-    front(m, 1);
-    front(m, 55);
-    front(m, 56);
-    front(m, 63);
-    front(m, 64);
-    front(m, 65);
-    front(m, 119);
-    front(m, 120);
-    front(m, 128);
-    front(m, 2048);
+    front(rt, m, 0)?;
+    front(rt, m, 1)?;
+    front(rt, m, 55)?;
+    front(rt, m, 56)?;
+    front(rt, m, 63)?;
+    front(rt, m, 64)?;
+    front(rt, m, 65)?;
+    front(rt, m, 119)?;
+    front(rt, m, 120)?;
+    front(rt, m, 128)?;
+    front(rt, m, 2048)
 }
 
 // Prints the digest of the first `n` bytes.
-fn front(m: &[u8], n: usize)
+fn front(rt: &impl Print, m: &[u8], n: usize) -> io::Result<()>
     requires { (length m.now ≡ 2048) × (n ≤ 2048) }
 {
-    io::write_all(1, b"SHA-1 length ");
-    io::print_decimal(1, n as u64);
-    message(b"", &m[..n]);
+    print!(rt; "SHA-1 length {n}")?;
+    message(rt, b"", &m[..n])
 }
 
 // Prints the digest of `m`.
-fn message(name: &[u8], m: &[u8])
+fn message(rt: &impl Print, name: &[u8], m: &[u8]) -> io::Result<()>
     requires { length m.now ≤ 2048 }
 {
     let d = hmac_sha1::digest(m, b"");
-    hex::print_bytes(name, &d);
+    hex::print_bytes(rt, name, &d)
 }
 
 // Prints the digest of 200 bytes, and how many of the 201 places to cut them give two parts with that digest.
-fn cuts() {
+fn cuts(rt: &impl Print) -> io::Result<()> {
     let mut m = [0u8; 200];
     count_up(&mut m);
-    message(b"SHA-1 length 200", &m);
+    message(rt, b"SHA-1 length 200", &m)?;
     let d = hmac_sha1::digest(&m, b"");
     let n = same_cuts(&m, &d);
-    io::write_all(1, b"SHA-1 length 200, cuts with that digest: ");
-    io::print_decimal(1, n as u64);
-    io::write_all(1, b"\n");
+    println!(rt; "SHA-1 length 200, cuts with that digest: {n}")
 }
 
 fn same_cuts(m: &[u8], d: &[u8]) -> usize

@@ -4,31 +4,32 @@ ghost use Rattle.aes.specs.SBox.{SBoxTable};
 
 use crate::hex;
 use aes::State;
+use std::io;
 
-pub fn run() {
+pub fn run(rt: &impl Print) -> io::Result<()> {
     let t = aes::sbox();
-    aes_128(&t);
-    aes_192(&t);
-    aes_256(&t);
+    aes_128(rt, &t)?;
+    aes_192(rt, &t)?;
+    aes_256(rt, &t)
 }
 
-fn aes_128(t: &[u8; 256])
+fn aes_128(rt: &impl Print, t: &[u8; 256]) -> io::Result<()>
     requires { SBoxTable t.now }
 {
     let mut key = [0u8; 16];
     let mut text = [0u8; 16];
     hex::read(b"2b7e151628aed2a6abf7158809cf4f3c", &mut key);
     let w = aes::expand_128(t, key);
-    round_keys(b"FIPS 197 A.1", &w);
+    round_keys(rt, b"FIPS 197 A.1", &w)?;
     hex::read(b"3243f6a8885a308d313198a2e0370734", &mut text);
-    block(t, b"FIPS 197 B", &w, 10, &text);
+    block(rt, t, b"FIPS 197 B", &w, 10, &text)?;
     hex::read(b"000102030405060708090a0b0c0d0e0f", &mut key);
     let w = aes::expand_128(t, key);
     hex::read(b"00112233445566778899aabbccddeeff", &mut text);
-    block(t, b"FIPS 197 C.1", &w, 10, &text);
+    block(rt, t, b"FIPS 197 C.1", &w, 10, &text)
 }
 
-fn aes_192(t: &[u8; 256])
+fn aes_192(rt: &impl Print, t: &[u8; 256]) -> io::Result<()>
     requires { SBoxTable t.now }
 {
     let mut key = [0u8; 24];
@@ -39,17 +40,17 @@ fn aes_192(t: &[u8; 256])
         &mut key,
     );
     aes::expand_key(t, 6, &key, &mut w);
-    round_keys(b"FIPS 197 A.2", &w);
+    round_keys(rt, b"FIPS 197 A.2", &w)?;
     hex::read(
         b"000102030405060708090a0b0c0d0e0f1011121314151617",
         &mut key,
     );
     aes::expand_key(t, 6, &key, &mut w);
     hex::read(b"00112233445566778899aabbccddeeff", &mut text);
-    block(t, b"FIPS 197 C.2", &w, 12, &text);
+    block(rt, t, b"FIPS 197 C.2", &w, 12, &text)
 }
 
-fn aes_256(t: &[u8; 256])
+fn aes_256(rt: &impl Print, t: &[u8; 256]) -> io::Result<()>
     requires { SBoxTable t.now }
 {
     let mut key = [0u8; 32];
@@ -60,53 +61,56 @@ fn aes_256(t: &[u8; 256])
         &mut key,
     );
     aes::expand_key(t, 8, &key, &mut w);
-    round_keys(b"FIPS 197 A.3", &w);
+    round_keys(rt, b"FIPS 197 A.3", &w)?;
     hex::read(
         b"000102030405060708090a0b0c0d0e0f101112131415161718191a1b1c1d1e1f",
         &mut key,
     );
     aes::expand_key(t, 8, &key, &mut w);
     hex::read(b"00112233445566778899aabbccddeeff", &mut text);
-    block(t, b"FIPS 197 C.3", &w, 14, &text);
+    block(rt, t, b"FIPS 197 C.3", &w, 14, &text)
 }
 
 // Prints the cipher of one block, by the S-box and by the table of a round.
-fn block(t: &[u8; 256], name: &[u8], w: &[u32], nr: usize, text: &[u8])
+fn block(
+    rt: &impl Print,
+    t: &[u8; 256],
+    name: &[u8],
+    w: &[u32],
+    nr: usize,
+    text: &[u8],
+) -> io::Result<()>
     requires sbox_table { SBoxTable t.now }
     requires sizes { (0 < nr) × (4 * nr + 4 ≤ length w.now) × (length text.now ≡ 16) }
 {
     let out = aes::encrypt_block(t, w, nr, State::load(text, 0)).bytes();
-    hex::print_bytes(name, &out);
+    hex::print_bytes(rt, name, &out)?;
     let by_table = aes_tables::round_table();
     let again = aes_tables::encrypt_block(&by_table, w, nr, State::load(text, 0)).bytes();
-    io::write_all(1, b"by table, ");
-    hex::print_bytes(name, &again);
+    rt.write_all(b"by table, ")?;
+    hex::print_bytes(rt, name, &again)
 }
 
 // Prints the words of an expanded key, a round key to a line.
-fn round_keys(name: &[u8], w: &[u32]) {
-    let n = w.len() / 4;
-    let mut i = 0;
-    while i < n {
-        round_key(name, w, i);
-        i += 1;
+fn round_keys(rt: &impl Print, name: &[u8], w: &[u32]) -> io::Result<()> {
+    for i in 0..w.len() / 4 {
+        round_key(rt, name, w, i)?;
     }
+    Ok(())
 }
 
-fn round_key(name: &[u8], w: &[u32], i: usize)
+fn round_key(rt: &impl Print, name: &[u8], w: &[u32], i: usize) -> io::Result<()>
     requires { 4 * i + 4 ≤ length w.now }
 {
-    io::write_all(1, name);
-    io::write_all(1, b" round key ");
-    io::print_decimal(1, i as u64);
-    word(w[4 * i]);
-    word(w[4 * i + 1]);
-    word(w[4 * i + 2]);
-    word(w[4 * i + 3]);
-    io::write_all(1, b"\n");
+    rt.write_all(name)?;
+    print!(rt; " round key {i}")?;
+    word(rt, w[4 * i])?;
+    word(rt, w[4 * i + 1])?;
+    word(rt, w[4 * i + 2])?;
+    word(rt, w[4 * i + 3])?;
+    rt.write_all(b"\n")
 }
 
-fn word(w: u32) {
-    io::write_all(1, b" ");
-    io::print_hex(1, w as u64, 8);
+fn word(rt: &impl Print, w: u32) -> io::Result<()> {
+    print!(rt; " {w:08x}")
 }

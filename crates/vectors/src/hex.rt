@@ -1,6 +1,8 @@
 // Hexadecimal text, as the documents print it: read into bytes, and written.
 ghost use Rattle.std.specs.Prelude.{◌≡◌, ◌*◌, ◌<◌, length};
 
+use std::io;
+
 // The bytes that `text` spells, over all of `out`.
 pub fn read(text: &[u8], out: &mut [u8])
     requires { length text.now ≡ 2 * length out.old }
@@ -31,21 +33,16 @@ fn digit(c: u8) -> u8
 }
 
 // A line of output: a name and bytes.
-pub fn print_bytes(name: &[u8], b: &[u8]) {
-    io::write_all(1, name);
-    io::write_all(1, b" ");
-    print_digits(b);
-    io::write_all(1, b"\n");
+pub fn print_bytes(rt: &impl Print, name: &[u8], b: &[u8]) -> io::Result<()> {
+    rt.write_all(name)?;
+    rt.write_all(b" ")?;
+    print_digits(rt, b)?;
+    rt.write_all(b"\n")
 }
 
-pub fn print_digits(b: &[u8]) {
-    let mut i = 0;
-    while i < b.len() {
-        io::print_hex(1, wide(b[i]), 2);
-        i += 1;
+pub fn print_digits(rt: &impl Print, b: &[u8]) -> io::Result<()> {
+    for byte in b {
+        print!(rt; "{byte:02x}")?;
     }
-}
-
-fn wide(b: u8) -> u64 {
-    b as u64
+    Ok(())
 }

@@ -7,9 +7,11 @@ mod hex;
 mod rfc2202;
 mod rfc3711;
 
-fn main() {
-    fips197::run();
-    fips180::run();
-    rfc2202::run();
-    rfc3711::run();
+use std::io;
+
+fn main(rt: HostRuntime) -> io::Result<()> {
+    fips197::run(&rt)?;
+    fips180::run(&rt)?;
+    rfc2202::run(&rt)?;
+    rfc3711::run(&rt)
 }

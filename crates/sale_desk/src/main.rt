@@ -6,7 +6,9 @@ ghost use Rattle.std.specs.Prelude.{true, ◌≡◌, ◌+◌, ◌≤◌, length,
 ghost use Rattle.desk.specs.Reads.{NotWhole, Serves, StartsUnder};
 
 use desk::{Desk, SPARE_LEN, Served, Start};
-use libc::{STDIN_FILENO, STDOUT_FILENO};
+use std::fs::File;
+use std::io::Read;
+use std::rt::Files;
 
 // The most that is read at once.
 const READ_LEN: usize = 8192;
@@ -18,52 +20,60 @@ struct Round {
     served: Served,
 }
 
+// Reads until `buf` is full, the input ends or a read fails, and says how many bytes of it came.
+fn read_full(input: &mut impl Read, buf: &mut [u8]) -> usize
+    ensures { result ≤ length buf.new }
+{
+    let mut done = 0;
+    while done < buf.len() {
+        match input.read(&mut buf[done..]) {
+            Ok(n) if n > 0 => done += n,
+            _ => break,
+        }
+    }
+    done
+}
+
 // The desk under the key file. One byte more than it may have is asked for, so that a longer file is seen.
-fn start() -> Start
+fn start(rt: &impl Files) -> Start
     ensures { StartsUnder result }
 {
     let mut key = [0u8; 31];
-    let fd = os::open_read(b"sale.key");
-    if fd < 0 {
+    let Ok(mut file) = File::open(rt, "sale.key") else {
         return Desk::start(&key[..0]);
-    }
-    let n = io::read_full(fd, &mut key);
-    libc::close(fd);
+    };
+    let n = read_full(&mut file, &mut key);
     Desk::start(&key[..n])
 }
 
-// Reads once, whatever comes, and has it served. Nothing that was read is left out.
-fn serve_read(desk: Desk, input: &mut [u8], out: &mut [u8]) -> Round
+// Reads once, whatever comes, and has it served. Nothing that was read is left out. A read that fails gave no bytes.
+fn serve_read(source: &mut impl Read, desk: Desk, input: &mut [u8], out: &mut [u8]) -> Round
     requires { NotWhole desk × (length input.old + 4110 ≤ length out.old) }
     ensures served { (result.n ≤ length input.new) × Serves desk (take result.n input.new) out.old result.served out.new }
     ensures taken { (result.served.taken ≡ true) × NotWhole result.served.next }
 {
-    let got = libc::read(STDIN_FILENO, input);
-    let n = io::count(got, input);
+    let n = source.read(input).unwrap_or(0);
     let served = desk.serve(&input[..n], out);
     Round { n, served }
 }
 
 // The input's end, or a write that fails, ends the run. A proved loop has to end, and nothing says that the input does: the loop counts its
-// turns down, from a number that no run uses up. Each turn but the last reads a byte or more.
-fn main() {
-    let start = start();
+// turns, up to a number that no run uses up. Each turn but the last reads a byte or more. What a read gives is written at once.
+fn main(rt: HostRuntime) {
+    let start = start(&rt);
     if !start.ready {
         return;
     }
+    let mut source = rt.stdin();
     let mut input = [0u8; READ_LEN];
     let mut out = [0u8; READ_LEN + SPARE_LEN];
     let mut desk = start.desk;
-    let mut turns = u64::MAX;
-    let mut goes_on = true;
-    while turns > 0 && goes_on {
-        let round = serve_read(desk, &mut input, &mut out);
-        let n = round.n;
+    for _ in 0..u64::MAX {
+        let round = serve_read(&mut source, desk, &mut input, &mut out);
         let served = round.served;
-        let len = served.len;
-        let next = served.next;
-        desk = next;
-        goes_on = n > 0 && io::write_all(STDOUT_FILENO, &out[..len]);
-        turns -= 1;
+        if round.n == 0 || rt.write_all(&out[..served.len]).is_err() {
+            break;
+        }
+        desk = served.next;
     }
 }

@@ -8,58 +8,47 @@ mod sum;
 
 ghost use Rattle.std.specs.Prelude.{◌≤◌, length};
 
-use libc::STDIN_FILENO;
+use std::io;
+use std::io::Read;
 use sum::Sum;
 use trace_records::HEAD_LEN;
 
-// The counts after an answer, and whether another may follow.
-#[derive(Clone, Copy)]
-struct Turn {
+// Reads one answer and says what it tells: the counts after it. There are none where the input ends, in an answer too, or a read fails.
+fn tell_one(
+    rt: &impl Print,
+    input: &mut impl Read,
     sum: Sum,
-    goes_on: bool,
-}
-
-// Reads one answer and says what it tells. A cut answer ends the run.
-fn tell_one(sum: Sum, buffer: &mut [u8]) -> Turn
+    buffer: &mut [u8],
+) -> io::Result<Option<Sum>>
     requires { 65535 ≤ length buffer.old }
 {
     let mut bytes = [0u8; HEAD_LEN];
-    if io::read_full(STDIN_FILENO, &mut bytes) < HEAD_LEN {
-        return Turn {
-            sum,
-            goes_on: false,
-        };
+    if input.read_exact(&mut bytes).is_err() {
+        return Ok(None);
     }
     let front = reading::read_front(bytes);
     let room = front.room;
-    if io::read_full(STDIN_FILENO, &mut buffer[..room]) < room {
-        return Turn {
-            sum,
-            goes_on: false,
-        };
+    if input.read_exact(&mut buffer[..room]).is_err() {
+        return Ok(None);
     }
     let op = front.op;
     let head = front.head;
     let told = reading::told_of(op, head);
     let next = sum.with(told);
-    say::answer(next.answers, op, told);
-    Turn {
-        sum: next,
-        goes_on: true,
-    }
+    say::answer(rt, next.answers, op, told)?;
+    Ok(Some(next))
 }
 
-// As in `trace`, the loop counts its turns down, since nothing says that the input ends.
-fn main() {
-    let mut buffer = io::large_buffer();
+// As in `trace`, the loop counts its turns, since nothing says that the input ends.
+fn main(rt: HostRuntime) -> io::Result<()> {
+    let mut input = rt.stdin();
+    let mut buffer = [0u8; 65536];
     let mut sum = Sum::none();
-    let mut turns = u64::MAX;
-    let mut goes_on = true;
-    while turns > 0 && goes_on {
-        let t = tell_one(sum, &mut buffer);
-        sum = t.sum;
-        goes_on = t.goes_on;
-        turns -= 1;
+    for _ in 0..u64::MAX {
+        let Some(next) = tell_one(&rt, &mut input, sum, &mut buffer)? else {
+            break;
+        };
+        sum = next;
     }
-    say::sum(sum);
+    say::sum(&rt, sum)
 }

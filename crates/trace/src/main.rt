@@ -3,55 +3,39 @@
 
 ghost use Rattle.std.specs.Prelude.{◌≤◌, length};
 
-use libc::{STDIN_FILENO, STDOUT_FILENO};
+use std::io::Read;
 use trace_records::Contexts;
 
-// The contexts after a record, and whether another may follow.
-#[derive(Clone, Copy)]
-struct Turn {
+// Reads one record and answers it: the contexts after it. There are none where the input ends, in a record too, or a read or a write fails.
+fn answer_one(
+    rt: &impl Print,
+    input: &mut impl Read,
     contexts: Contexts,
-    goes_on: bool,
-}
-
-// Reads one record and answers it. A cut record ends the run.
-fn answer_one(contexts: Contexts, body: &mut [u8], out: &mut [u8]) -> Turn
+    body: &mut [u8],
+    out: &mut [u8],
+) -> Option<Contexts>
     requires { (65535 ≤ length body.old) × (4110 ≤ length out.old) }
 {
     let mut head = [0u8; 3];
-    if io::read_full(STDIN_FILENO, &mut head) < 3 {
-        return Turn {
-            contexts,
-            goes_on: false,
-        };
-    }
+    input.read_exact(&mut head).ok()?;
     let n = trace_records::body_len(head);
-    if io::read_full(STDIN_FILENO, &mut body[..n]) < n {
-        return Turn {
-            contexts,
-            goes_on: false,
-        };
-    }
+    input.read_exact(&mut body[..n]).ok()?;
     let answered = contexts.answer(head[0], &body[..n], out);
     let len = answered.len;
-    let next = answered.next;
-    let goes_on = io::write_all(STDOUT_FILENO, &out[..len]);
-    Turn {
-        contexts: next,
-        goes_on,
-    }
+    rt.write_all(&out[..len]).ok()?;
+    Some(answered.next)
 }
 
-// A proved loop has to end, and nothing says that the input does: the loop counts its turns down, from a number that no run uses up.
-fn main() {
-    let mut body = io::large_buffer();
+// A proved loop has to end, and nothing says that the input does: the loop counts its turns, up to a number that no run uses up.
+fn main(rt: HostRuntime) {
+    let mut input = rt.stdin();
+    let mut body = [0u8; 65536];
     let mut answer = [0u8; trace_records::MAX_ANSWER_LEN];
     let mut contexts = Contexts::closed();
-    let mut turns = u64::MAX;
-    let mut goes_on = true;
-    while turns > 0 && goes_on {
-        let t = answer_one(contexts, &mut body, &mut answer);
-        contexts = t.contexts;
-        goes_on = t.goes_on;
-        turns -= 1;
+    for _ in 0..u64::MAX {
+        let Some(next) = answer_one(&rt, &mut input, contexts, &mut body, &mut answer) else {
+            break;
+        };
+        contexts = next;
     }
 }

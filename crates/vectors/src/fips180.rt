@@ -20,10 +20,8 @@ pub fn run(rt: &impl Print) -> io::Result<()> {
 }
 
 fn count_up(m: &mut [u8]) {
-    let mut i = 0;
-    while i < m.len() {
+    for i in 0..m.len() {
         m[i] = (i % 251) as u8;
-        i += 1;
     }
 }
 
@@ -74,13 +72,11 @@ fn same_cuts(m: &[u8], d: &[u8]) -> usize
     ensures { result ≤ length m.now + 1 }
 {
     let mut n = 0;
-    let mut i = 0;
-    while i <= m.len() {
+    for i in 0..m.len() + 1 {
         let e = hmac_sha1::digest(&m[..i], &m[i..]);
         if octets::same(&e, d) {
             n += 1;
         }
-        i += 1;
     }
     n
 }

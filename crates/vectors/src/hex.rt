@@ -7,12 +7,10 @@ use std::io;
 pub fn read(text: &[u8], out: &mut [u8])
     requires { length text.now ≡ 2 * length out.old }
 {
-    let mut i = 0;
-    while i < out.len() {
+    for i in 0..out.len() {
         let high = digit(text[2 * i]);
         let low = digit(text[2 * i + 1]);
         out[i] = high * 16 + low;
-        i += 1;
     }
 }
 

@@ -61,11 +61,9 @@ pub fn damaged(packet: [u8; ROOM], drawn: usize) -> [u8; ROOM] {
 fn noise(drawn: usize) -> [u8; ROOM] {
     let mut bytes = [0u8; ROOM];
     let mut next = drawn;
-    let mut j = 0;
-    while j < ROOM {
+    for j in 0..ROOM {
         next = draw(next);
         bytes[j] = (next % 256) as u8;
-        j += 1;
     }
     bytes
 }

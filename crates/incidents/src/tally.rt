@@ -45,11 +45,12 @@ fn one_more(n: u64) -> u64 {
 fn with_index(indices: [u64; SLOTS], index: u64) -> usize
     ensures { result ≤ 256 }
 {
-    let mut k = 0;
-    while k < SLOTS && indices[k] != index {
-        k += 1;
+    for k in 0..SLOTS {
+        if indices[k] == index {
+            return k;
+        }
     }
-    k
+    SLOTS
 }
 
 impl Tally {

@@ -1,6 +1,6 @@
 -- What is made under a receiver's session, where its window does not take the index for old and the buffer has room: a repeat is refused as
 -- REPEAT; what is new is accepted, and the packet comes out. Assumes nothing.
-use Prim.Native.Nat.{ℕ, ◌-◌}
+use Prim.Native.Nat.{ℕ}
 use native.Mathlib.Omega.{arith}
 use mathlib.Core.Path.{◌≡◌, refl, ap, ◌∙◌}
 use mathlib.Core.Bool.{Bool, true, false, cond, not}

@@ -1,6 +1,6 @@
 /* Tindrabek: SRTP and SRTCP packet protection (RFC 3711, and RFC 4771's integrity transform) for one stream, for C.
  *
- * Build the library with `rt staticlib srtp_c` and link target/staticlib/libsrtp_c.a. It is code for x86-64 Linux.
+ * Build the library with `rt lib` in crates/srtp_c and link crates/srtp_c/out/libsrtp_c.a. It is code for x86-64 Linux.
  *
  * A context is a plain struct in the caller's memory. Set-up gives one back by value; a call is lent its pointer and leaves the next
  * state in it. There is nothing to free, no global state, no allocation and no I/O: contexts in different threads don't touch.

@@ -1,8 +1,8 @@
 /* Protects the packets of a small stream and opens them as a receiver might get them: damaged, twice, late, and across a rollover. It
  * writes what happened, in the words of rust/tindrabek/examples/protect_and_open.rs.
  *
- *   rt staticlib srtp_c
- *   gcc -Wall -Wextra -Werror -I include examples/c/protect_and_open.c target/staticlib/libsrtp_c.a -o protect_and_open
+ *   (cd crates/srtp_c && rt lib)
+ *   gcc -Wall -Wextra -Werror -I include examples/c/protect_and_open.c crates/srtp_c/out/libsrtp_c.a -o protect_and_open
  */
 #include <stdio.h>
 #include <string.h>

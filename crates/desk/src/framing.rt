@@ -157,7 +157,8 @@ impl Reader {
             if reader.is_whole() {
                 let len = size(reader.len);
                 reader = Reader::start();
-                if len <= MAX_FRAME_LEN {
+                let is_taken = len <= MAX_FRAME_LEN;
+                if is_taken {
                     return Taken {
                         next: reader,
                         at,

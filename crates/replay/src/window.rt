@@ -89,7 +89,8 @@ impl Window {
         let words = self.words;
         if h < index {
             let rise = index - h;
-            if rise >= Window::LENGTH {
+            let is_far = rise >= Window::LENGTH;
+            if is_far {
                 return Window {
                     highest: Highest::At(index),
                     words: row::one(),

@@ -9,9 +9,9 @@ use Rattle.replay.proofs.window.Window.accepting.Goals as goal
 pub returns-in_default : goal.returns-in_default
 returns-in_default c = search mark-first
 
-pub returns-then-rise-ge-LENGTH : goal.returns-then-rise-ge-LENGTH
-returns-then-rise-ge-LENGTH c =
-    mark-far _ _ _ c.in-At.is _ (omega arith) (omega arith) c.one-then-rise-ge-LENGTH.ensures
+pub returns-then-is_far : goal.returns-then-is_far
+returns-then-is_far c =
+    mark-far _ _ _ c.in-At.is _ (omega arith) (omega arith) c.one-then-is_far.ensures
 
 pub returns-then-h-index : goal.returns-then-h-index
 returns-then-h-index c = search mark-ahead

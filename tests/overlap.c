@@ -6,7 +6,7 @@
  * Where a byte is shared, the call must refuse with OVERLAP and leave the whole memory as it stood. Everywhere else it must do what it does
  * with the ranges far apart. Prints a line for each group; the last line is 'N passed, M failed'.
  *
- *   gcc -I include tests/overlap.c target/staticlib/libsrtp_c.a -o overlap && ./overlap
+ *   gcc -I include tests/overlap.c crates/srtp_c/out/libsrtp_c.a -o overlap && ./overlap
  */
 #include <stdio.h>
 #include <string.h>

@@ -22,4 +22,6 @@ fn main() {
     let dir = dir.canonicalize().expect("a folder that is there has a full path");
     println!("cargo:rustc-link-search=native={}", dir.display());
     println!("cargo:rustc-link-lib=static=srtp_c");
+    // For the build scripts of crates that use this one: DEP_SRTP_C_DIR.
+    println!("cargo:dir={}", dir.display());
 }

@@ -1,5 +1,7 @@
 // The S-box as a constant table (FIPS 197, 5.1.1).
-ghost use Rattle.aes.specs.SBox.{SBoxTable};
+ghost use Rattle.std.specs.Prelude.{◌≡◌, [], ◌∷◌};
+ghost use Rattle.octets.specs.BigEndian.{byte, to_bytes};
+ghost use Rattle.aes.specs.SBox.{s_box, SBoxTable};
 
 const SBOX: [u8; 256] = [
     0x63, 0x7c, 0x77, 0x7b, 0xf2, 0x6b, 0x6f, 0xc5, 0x30, 0x01, 0x67, 0x2b, 0xfe, 0xd7, 0xab, 0x76,
@@ -20,9 +22,27 @@ const SBOX: [u8; 256] = [
     0x8c, 0xa1, 0x89, 0x0d, 0xbf, 0xe6, 0x42, 0x68, 0x41, 0x99, 0x2d, 0x0f, 0xb0, 0x54, 0xbb, 0x16,
 ];
 
-// A constant array is copied to the stack wherever it is named, so a caller takes the table once and lends it from there.
-pub fn sbox() -> [u8; 256]
-    ensures { SBoxTable result }
+// The S-box, lent from where it stands: a constant array that is named, and not borrowed, is copied to the stack.
+pub fn sbox() -> &'static [u8; 256]
+    ensures { SBoxTable result.now }
 {
-    SBOX
+    &SBOX
+}
+
+fn substituted(b: u8) -> u8
+    ensures { result ≡ s_box b }
+{
+    sbox()[b as usize]
+}
+
+// A column of SubBytes and ShiftRows: row 0 from `a`, row 1 from `b`, row 2 from `c`, row 3 from `d`.
+pub(crate) fn column(a: u32, b: u32, c: u32, d: u32) -> u32
+    ensures { to_bytes 4 result ≡ s_box (byte 3 a) ∷ s_box (byte 2 b) ∷ s_box (byte 1 c) ∷ s_box (byte 0 d) ∷ [] }
+{
+    u32::from_be_bytes([
+        substituted(a.to_be_bytes()[0]),
+        substituted(b.to_be_bytes()[1]),
+        substituted(c.to_be_bytes()[2]),
+        substituted(d.to_be_bytes()[3]),
+    ])
 }

@@ -1,14 +1,14 @@
 -- A round by table is a round of FIPS 197. Assumes nothing.
-use mathlib.Core.List.{List, [], ◌∷◌, ◌++◌}
+use mathlib.Core.List.{List, [], ◌∷◌, ◌++◌, map}
 use mathlib.Core.Path.{◌≡◌, refl, sym, ap, ap₂, ◌∙◌}
-use Prim.Native.Nat.{ℕ, suc, ◌+◌, ◌-◌, ◌*◌, ◌/◌, ◌%◌, ◌^◌, ◌<◌, ◌≤◌}
+use Prim.Native.Nat.{ℕ, ◌+◌, ◌-◌, ◌*◌, ◌/◌, ◌%◌, ◌^◌, ◌<◌, ◌≤◌}
 use native.Mathlib.Omega.{arith}
 use lib.Bits.{bit_xor, xor_comm, xor_zero_l, xor_zero_r}
-use lib.ListN.{length, take, drop, length-drop}
-use lib.Seq.{take_all}
+use lib.ListN.{drop, get_or}
+use Rattle.aes.proofs.AesLaws.{next-round}
 use Rattle.aes.proofs.StateLaws.{added-words}
-use Rattle.aes.specs.Cipher.{mix_column, add_round_key, round_key, round_of, last_round_of, rounds, cipher}
-use Rattle.aes.specs.Columns.{block}
+use Rattle.aes.specs.Cipher.{mix_column, round_key, round_of, last_round_of, rounds}
+use Rattle.aes.specs.Columns.{block, state}
 use Rattle.aes.specs.SBox.{s_box}
 use Rattle.aes.specs.declared.State.{State}
 use Rattle.octets.proofs.BigEndianLaws.{byte-is, byte-lt, to_bytes-xor}
@@ -16,7 +16,7 @@ use Rattle.octets.proofs.XorLaws.{xor_assoc}
 use Rattle.octets.specs.BigEndian.{byte, to_bytes}
 use Rattle.octets.specs.Xor.{xors}
 use Rattle.aes_tables.specs.Table.{products, alone, word, entry, cell, Rows, RoundTable}
-use Rattle.aes_tables.specs.Rounds.{state, row_by, round_by, key_state, added_to}
+use Rattle.aes_tables.specs.Rounds.{row_by, round_by, each_round_by}
 
 -- row r of the entry of the byte that stands in row r of a column
 pub row_of : (t : List ℕ) (d r a v : ℕ) → r < 4 → v ≡ entry t d (a / 2 ^ (24 - 8 * r) % 2 ^ 8) → word r v ≡ row_by t d r a
@@ -114,35 +114,47 @@ last-by t h =
     round-columns t 1 (λ a b c d. s_box (byte 3 a) ∷ s_box (byte 2 b) ∷ s_box (byte 1 c) ∷ s_box (byte 0 d) ∷ [])
     (λ a b c d. column t 1 alone h a b c d ∙ apart (s_box (byte 3 a)) (s_box (byte 2 b)) (s_box (byte 1 c)) (s_box (byte 0 d)))
 
--- by the second table
-pub last-half : (t : List ℕ) → RoundTable t → (s k r : State) → r ≡ round_by (take (length t - 512) (drop 512 t)) 1 s k → block r ≡ last_round_of (block s) (block k)
-last-half t h s k r e =
-    let half : take (length t - 512) (drop 512 t) ≡ drop 512 t = take_all (length t - 512) (drop 512 t) (omega (arith, length-drop 512 t)) in
-    ap block (e ∙ ap (λ (l : List ℕ). round_by l 1 s k) half) ∙ last-by (drop 512 t) h.last s k
+-- ---- several states at a time
 
--- ---- AddRoundKey
+pub maps : {A B C : Type 0} (f : B → C) (g : A → B) (h : A → C) → ((z : A) → f (g z) ≡ h z) → (zs : List A) → map f (map g zs) ≡ map h zs
+maps f g h e [] = refl
+maps f g h e (z ∷ zs) = ap₂ ◌∷◌ (e z) (maps f g h e zs)
 
-pub added-to : (s k : State) → block (added_to s k) ≡ add_round_key (block s) (block k)
-added-to s k = added-words s.c0 s.c1 s.c2 s.c3 k.c0 k.c1 k.c2 k.c3 refl refl refl refl
+each-by : (t : List ℕ) (d : ℕ) (k : State) (g : List ℕ → List ℕ) → ((s : State) → block (round_by t d s k) ≡ g (block s)) → (xs : List State)
+    → map block (each_round_by t d xs k) ≡ map g (map block xs)
+unfolding each_round_by
+each-by t d k g e xs =
+    maps block (λ (s : State). round_by t d s k) (λ s. g (block s)) e xs ∙ sym (maps g block (λ s. g (block s)) (λ s. refl) xs)
 
--- ---- the loop over the rounds
+pub each-mixed : (t : List ℕ) → RoundTable t → (k : State) (xs : List State) → map block (each_round_by t 2 xs k) ≡ map (λ s. round_of s (block k)) (map block xs)
+each-mixed t h k = each-by t 2 k (λ s. round_of s (block k)) (λ s. round_by_lem t h s k)
 
-module _ (t : List ℕ) (w : List ℕ) (h : RoundTable t) (z : List ℕ) where
-  -- one turn: x has gone through rounds 1 to i - 1
-  pub next-round : (i : ℕ) (x k r : State) → 1 ≤ i → k ≡ key_state w i → r ≡ round_by t 2 x k → block x ≡ rounds w (i - 1) z → block r ≡ rounds w (i + 1 - 1) z
-  unfolding rounds
-  next-round i x k r p e f q =
-      let m : i ≡ suc (i - 1) = omega arith in
-      let n : i + 1 - 1 ≡ suc (i - 1) = omega arith in
-      ap block f
-      ∙ round_by_lem t h x k
-      ∙ ap₂ round_of q (ap block e)
-      ∙ ap (λ (j : ℕ). round_of (rounds w (i - 1) z) (round_key w j)) m
-      ∙ sym (ap (λ (j : ℕ). rounds w j z) n)
+pub each-last : (t : List ℕ) → RoundTable t → (k : State) (xs : List State)
+    → map block (each_round_by (drop 512 t) 1 xs k) ≡ map (λ s. last_round_of s (block k)) (map block xs)
+each-last t h k = each-by (drop 512 t) 1 k (λ s. last_round_of s (block k)) (λ s. last-by (drop 512 t) h.last s k)
+
+-- one turn of the loop over the rounds: they have gone through rounds 1 to i - 1
+pub next-rounds : (w : List ℕ) (i : ℕ) (k : List ℕ) (zs : List (List ℕ)) {xs rs : List (List ℕ)} → 1 ≤ i → k ≡ round_key w i
+    → xs ≡ map (rounds w (i - 1)) zs → rs ≡ map (λ s. round_of s k) xs → rs ≡ map (rounds w (i + 1 - 1)) zs
+next-rounds w i k zs p e f g =
+    g ∙ ap (map (λ s. round_of s k)) f
+    ∙ maps (λ s. round_of s k) (rounds w (i - 1)) (rounds w (i + 1 - 1)) (λ z. next-round w z i p refl e refl) zs
 
 -- its end
-pub all-rounds : (w s : List ℕ) (i nr : ℕ) (x k r : State) → i ≡ nr → k ≡ key_state w nr → block r ≡ last_round_of (block x) (block k)
-    → block x ≡ rounds w (i - 1) (add_round_key s (round_key w 0)) → block r ≡ cipher w nr s
-unfolding cipher
-all-rounds w s i nr x k r e f g q =
-    g ∙ ap₂ last_round_of q (ap block f) ∙ ap (λ (n : ℕ). last_round_of (rounds w (n - 1) (add_round_key s (round_key w 0))) (round_key w nr)) e
+pub all-behind : (w : List ℕ) (nr i : ℕ) (k : List ℕ) (zs : List (List ℕ)) {xs rs : List (List ℕ)} → i ≡ nr → k ≡ round_key w nr
+    → xs ≡ map (rounds w (i - 1)) zs → rs ≡ map (λ s. last_round_of s k) xs → rs ≡ map (λ z. last_round_of (rounds w (nr - 1) z) (round_key w nr)) zs
+all-behind w nr i k zs e f q g =
+    g ∙ ap (map (λ s. last_round_of s k)) q
+    ∙ maps (λ s. last_round_of s k) (rounds w (i - 1)) (λ z. last_round_of (rounds w (nr - 1) z) (round_key w nr))
+    (λ z. ap₂ (λ (n : ℕ) (r : List ℕ). last_round_of (rounds w (n - 1) z) r) e f) zs
+
+-- one state alone
+pub alone-in : (r : List State) (d : State) {x : List ℕ} → map block r ≡ x ∷ [] → block (get_or r 0 d) ≡ x
+alone-in [] d e = cc
+alone-in (s ∷ r) d e = cc
+
+-- and two
+pub both-in : (r : List State) (d : State) {x y : List ℕ} → map block r ≡ x ∷ y ∷ [] → (block (get_or r 0 d) ≡ x) × (block (get_or r 1 d) ≡ y)
+both-in [] d e = cc
+both-in (s ∷ []) d e = cc
+both-in (s ∷ t ∷ r) d e = (cc, cc)

@@ -1,19 +1,24 @@
 -- Blocks that differ in their last byte alone: what their front makes of each is two rounds. Assumes nothing.
-use mathlib.Core.List.{List}
-use mathlib.Core.Path.{◌≡◌, sym, ap, ap₂, ◌∙◌, subst}
-use Prim.Native.Nat.{ℕ, ◌+◌, ◌/◌, ◌^◌}
+use mathlib.Core.List.{List, ◌∷◌, map}
+use mathlib.Core.Path.{◌≡◌, refl, sym, ap, ap₂, ◌∙◌, subst}
+use Prim.Native.Nat.{ℕ, zero, suc, ◌+◌, ◌-◌, ◌/◌, ◌%◌, ◌^◌, ◌≤◌}
+use native.Mathlib.Nat.{add-zero, add_assoc}
+use native.Mathlib.Omega.{arith}
 use lib.Bits.{bit_xor}
-use Rattle.aes.specs.Cipher.{round_of, rounds}
-use Rattle.aes.specs.Columns.{block}
+use lib.ListN.{get_or}
+use Rattle.std.specs.List.{range_with_len}
+use Rattle.aes.proofs.StateLaws.{added-to}
+use Rattle.aes.specs.Cipher.{add_round_key, round_key, round_of, last_round_of, rounds, cipher}
+use Rattle.aes.specs.Columns.{block, state, key_state, added_to}
 use Rattle.aes.specs.declared.State.{State}
 use Rattle.octets.proofs.BigEndianLaws.{byte-xor, byte-up}
 use Rattle.octets.proofs.XorLaws.{xor-twice}
 use Rattle.octets.specs.BigEndian.{byte}
 use Rattle.aes_tables.specs.Table.{cell, RoundTable}
-use Rattle.aes_tables.specs.Rounds.{state, row_by, round_by, key_state, added_to}
+use Rattle.aes_tables.specs.Rounds.{row_by, round_by}
 use Rattle.aes_tables.specs.Series.{ending, spread_by, front_by, after_two, FrontOf}
 use Rattle.aes_tables.specs.declared.Front.{Front}
-use Rattle.aes_tables.proofs.RoundLaws.{swap, same-state, round_by_lem, added-to}
+use Rattle.aes_tables.proofs.RoundLaws.{swap, same-state, round_by_lem, maps}
 
 -- ---- one term of a column for another
 
@@ -79,18 +84,35 @@ front_by_lem t w h s = record {
 
 -- ---- as the code makes it
 
-unfoldable front_with : ℕ → State → Front
-front_with f r = record { first = f; rest = r }
-
-pub front-terms : (t : List ℕ) (x k m y z sp ad : State) (v : ℕ) → y ≡ round_by t 2 x k → z ≡ round_by t 2 y m → v ≡ row_by t 2 3 x.c3 → sp ≡ spread_by t y.c0
-    → ad ≡ added_to z sp → record { first = bit_xor y.c0 v; rest = ad } ≡ front_by t x k m
-unfolding front_with
-front-terms t x k m y z sp ad v ey ez ev esp ead =
-    ap₂ front_with (ap (bit_xor y.c0) ev) (ead ∙ ap₂ added_to ez esp)
-    ∙ ap (λ (y : State). front_with (bit_xor y.c0 (row_by t 2 3 x.c3)) (added_to (round_by t 2 y m) (spread_by t y.c0))) ey
-
 pub front-made : (t : List ℕ) (w : List ℕ) → RoundTable t → (s z x k m : State) (f : Front) → z ≡ key_state w 0 → x ≡ added_to s z → k ≡ key_state w 1 → m ≡ key_state w 2
     → f ≡ front_by t x k m → FrontOf t w s f
 front-made t w h s z x k m f ez ex ek em ef =
     let made : f ≡ front_by t (added_to s (key_state w 0)) (key_state w 1) (key_state w 2) = cc in
     subst (λ (g : Front). FrontOf t w s g) (sym made) (front_by_lem t w h s)
+
+-- ---- several blocks of a series: what stands behind round 2 of each, once the cipher is finished
+
+module _ (t w : List ℕ) (s : State) (f : Front) (h : FrontOf t w s f) (low : s.c3 % 2 ^ 8 ≡ 0) where
+  -- the state behind round 2 of the block with j as its last byte, and what has gone into it
+  abbrev pub behind : ℕ → State
+  behind j = after_two t f (bit_xor (s.c3 + j) (get_or w 3 0))
+
+  abbrev pub keyed : ℕ → List ℕ
+  keyed j = add_round_key (block (ending s (s.c3 + j))) (round_key w 0)
+
+  behind-rounds : (j n k : ℕ) → j + k + n ≤ 256 → map block (map (λ i. behind (j + i)) (range_with_len k n)) ≡ map (rounds w 2) (map keyed (range_with_len (j + k) n))
+  behind-rounds j zero k b = refl
+  behind-rounds j (suc n) k b =
+      ap₂ ◌∷◌ (h.second (s.c3 + (j + k)) (omega arith))
+      (behind-rounds j n (k + 1) (omega arith) ∙ ap (λ (i : ℕ). map (rounds w 2) (map keyed (range_with_len i n))) (sym (add_assoc j k 1)))
+
+  -- n of them, from the last byte j on
+  pub all-blocks : (nr j n : ℕ) {xs : List State} (rs : List State) → j + n ≤ 256 → xs ≡ map (λ k. behind (j + k)) (range_with_len 0 n)
+      → ((zs : List (List ℕ)) → map block xs ≡ map (rounds w 2) zs → map block rs ≡ map (λ z. last_round_of (rounds w (nr - 1) z) (round_key w nr)) zs)
+      → map block rs ≡ map (λ i. cipher w nr (block (ending s (s.c3 + i)))) (range_with_len j n)
+  unfolding cipher
+  all-blocks nr j n rs b e f =
+      f (map keyed (range_with_len j n))
+      (ap (map block) e ∙ behind-rounds j n 0 (omega arith) ∙ ap (λ (i : ℕ). map (rounds w 2) (map keyed (range_with_len i n))) (add-zero j))
+      ∙ maps (λ z. last_round_of (rounds w (nr - 1) z) (round_key w nr)) keyed (λ i. last_round_of (rounds w (nr - 1) (keyed i)) (round_key w nr)) (λ i. refl)
+      (range_with_len j n)

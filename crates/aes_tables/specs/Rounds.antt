@@ -1,14 +1,11 @@
 -- A round by table, on states of four words. (That it is a round of FIPS 197 is proved of it: a reader need not believe it.)
 -- Assumes nothing.
-use Rattle.std.specs.Prelude.{ℕ, ◌+◌, ◌-◌, ◌*◌, List, get_or}
+use Rattle.std.specs.Prelude.{ℕ, ◌-◌, List, map}
 use Rattle.std.specs.Int.Bits.{bit_xor}
 use Rattle.octets.specs.BigEndian.{byte}
+use Rattle.aes.specs.Columns.{state}
 use Rattle.aes.specs.declared.State.{State}
 use Rattle.aes_tables.specs.Table.{cell}
-
--- the state with these columns
-abbrev pub state : (a b c d : ℕ) → State
-state a b c d = record { c0 = a; c1 = b; c2 = c; c3 = d }
 
 -- what the byte in row r of the column a adds, by a table whose entries are d words apart
 abbrev pub row_by : (t : List ℕ) (d r a : ℕ) → ℕ
@@ -23,10 +20,6 @@ turned_by t d x a =
 abbrev pub round_by : (t : List ℕ) (d : ℕ) (s k : State) → State
 round_by t d s k = turned_by t d (turned_by t d (turned_by t d (turned_by t d k s.c0) s.c1) s.c2) s.c3
 
--- round key i
-abbrev pub key_state : List ℕ → ℕ → State
-key_state w i = state (get_or w (4 * i) 0) (get_or w (4 * i + 1) 0) (get_or w (4 * i + 2) 0) (get_or w (4 * i + 3) 0)
-
--- AddRoundKey
-abbrev pub added_to : (s k : State) → State
-added_to s k = state (bit_xor s.c0 k.c0) (bit_xor s.c1 k.c1) (bit_xor s.c2 k.c2) (bit_xor s.c3 k.c3)
+-- the round on each of the states
+unfoldable pub each_round_by : (t : List ℕ) (d : ℕ) (states : List State) (k : State) → List State
+each_round_by t d states k = map (λ s. round_by t d s k) states

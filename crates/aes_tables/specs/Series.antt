@@ -3,9 +3,9 @@
 use Rattle.std.specs.Prelude.{ℕ, ◌/◌, ◌^◌, ◌≡◌, List, get_or}
 use Rattle.std.specs.Int.Bits.{bit_xor}
 use Rattle.aes.specs.Cipher.{add_round_key, round_key, rounds}
-use Rattle.aes.specs.Columns.{block}
+use Rattle.aes.specs.Columns.{block, state, added_to}
 use Rattle.aes.specs.declared.State.{State}
-use Rattle.aes_tables.specs.Rounds.{state, row_by, added_to, round_by}
+use Rattle.aes_tables.specs.Rounds.{row_by, round_by}
 use Rattle.aes_tables.specs.declared.Front.{Front}
 
 -- the block s with v as its last word

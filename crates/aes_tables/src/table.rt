@@ -1,7 +1,13 @@
 // The tables of a round and of the last round, one behind the other. Row r of an entry is the word that begins r bytes up. What a byte adds to the
 // columns of a round has all four bytes of a word, and its entry is that word twice over. What it adds to those of the last round is its
 // substitute alone: there an entry is one word, and the zeros of the next one are behind it.
+ghost use Rattle.std.specs.Prelude.{◌≡◌, map, drop};
+ghost use Rattle.aes.specs.Cipher.{round_of, last_round_of};
+ghost use Rattle.aes.specs.Columns.{block};
 ghost use Rattle.aes_tables.specs.Table.{RoundTable};
+
+use crate::rounds::Table;
+use aes::State;
 
 const ROUND_TABLE: [u32; 769] = [
     0xc663_63a5, // byte 0x00
@@ -775,9 +781,55 @@ const ROUND_TABLE: [u32; 769] = [
     0,
 ];
 
-// A constant array is copied to the stack wherever it is named, so a caller takes the table once and lends it from there.
-pub fn round_table() -> [u32; 769]
-    ensures { RoundTable result }
+// The tables, lent from where they stand: a constant array that is named, and not borrowed, is copied to the stack.
+pub fn round_table() -> &'static [u32; 769]
+    ensures { RoundTable result.now }
 {
-    ROUND_TABLE
+    &ROUND_TABLE
+}
+
+#[derive(Clone, Copy)]
+pub struct Tables<'a> {
+    pub words: &'a [u32; 769],
+    pub ghost rule: { RoundTable words.now },
+}
+
+impl<'a> Tables<'a> {
+    pub fn new() -> Tables<'static> {
+        Tables {
+            words: round_table(),
+        }
+    }
+
+    // A round on each of the states.
+    pub(crate) fn round<const N: usize>(self, states: &mut [State; N], key: State)
+        ensures { map block states.new ≡ map (λ s. round_of s (block key)) (map block states.old) }
+    {
+        self.mixed().each_round(states, key);
+    }
+
+    // The last round has no MixColumns: it goes by the second table.
+    pub(crate) fn last_round<const N: usize>(self, states: &mut [State; N], key: State)
+        ensures { map block states.new ≡ map (λ s. last_round_of s (block key)) (map block states.old) }
+    {
+        self.last().each_round(states, key);
+    }
+
+    // The table of a round.
+    pub(crate) fn mixed(self) -> Table<'a, 2>
+        ensures { result.words.now ≡ self.entry.words.now }
+    {
+        let words = self.words;
+        Table { words }
+    }
+
+    // That of the last round.
+    fn last(self) -> Table<'a, 1>
+        ensures { result.words.now ≡ drop 512 self.entry.words.now }
+    {
+        let words = self.words;
+        Table {
+            words: &words[512..],
+        }
+    }
 }

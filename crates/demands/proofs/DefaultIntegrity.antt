@@ -6,10 +6,10 @@ use mathlib.Core.Bool.{false, ◌&&◌, ◌||◌}
 use mathlib.Core.List.{List, ◌++◌}
 use lib.Dec.{eqb, leb}
 use lib.ListN.{length}
+use Rattle.std.specs.Prelude.{Option}
 use Rattle.octets.specs.BigEndian.{to_bytes}
 use Rattle.rtp.specs.Rtp.{sequence_number}
 use Rattle.replay.specs.Index.{estimate}
-use Rattle.replay.specs.declared.index.Highest.{Highest}
 use Rattle.transforms.specs.KeyDerivation.{media_label}
 use Rattle.transforms.specs.declared.Integrity.TheVariants.{HmacSha1}
 use Rattle.session.specs.declared.Settings.{Settings}
@@ -34,7 +34,7 @@ module _ (u : SetUp) (e : u.profile.integrity ≡ HmacSha1) where
   default-tag a i = rw e
 
   -- 01: at most 1,023 behind and 32,767 ahead, or the started rollover counter
-  pub default-reach : (rollover : ℕ) (h : Highest) (i : ℕ) → Reaches (has_whole_index media u i) rollover h i ≡ Reaches false rollover h i
+  pub default-reach : (rollover : ℕ) (h : Option ℕ) (i : ℕ) → Reaches (has_whole_index media u i) rollover h i ≡ Reaches false rollover h i
   default-reach rollover h i = rw e
 
 -- row 1 on a context value

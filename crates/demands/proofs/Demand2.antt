@@ -3,9 +3,9 @@ use Prim.Native.Nat.{ℕ}
 use mathlib.Core.Path.{◌≡◌, sym, ap, subst, ◌∙◌}
 use mathlib.Core.List.{List}
 use lib.ListN.{length}
+use Rattle.std.specs.Prelude.{Option}
 use Rattle.octets.specs.BigEndian.{Bytes}
 use Rattle.rtp.specs.Protected.{authenticated_portion, tag_of, word_of, e_flag}
-use Rattle.srtp.specs.declared.LastNumber.{LastNumber}
 use Rattle.session.specs.declared.Session.{Session}
 use Rattle.srtp.specs.declared.Receiver.{Receiver}
 use Rattle.srtp.specs.declared.Sender.{Sender}
@@ -91,7 +91,7 @@ tag_is control u b i e =
     (mki-kept u) e
     ∙ control-tag u (authenticated_portion (length u.mki) control_tag_length b)
 
-module _ (u : SetUp) (rollover : ℕ) (number : LastNumber) (earlier : List Call) (c : Call) (p : List ℕ) (i : ℕ) (r' : Receiver)
+module _ (u : SetUp) (rollover : ℕ) (number : Option ℕ) (earlier : List Call) (c : Call) (p : List ℕ) (i : ℕ) (r' : Receiver)
     (e : receiver_outcome u rollover number earlier c ≡ done p i r') where
   abbrev r : Receiver
   r = receiver_after u rollover number earlier
@@ -118,7 +118,7 @@ module _ (u : SetUp) (rollover : ℕ) (number : LastNumber) (earlier : List Call
         tag = tag_is c.kind u c.packet i (subst (λ (x : Session). TaggedAs c.kind x c.packet i) s read.tagged);
       }
 
-pub receiver-demand2 : (u : SetUp) (rollover : ℕ) (number : LastNumber) → ReceiverDemand2 u rollover number
+pub receiver-demand2 : (u : SetUp) (rollover : ℕ) (number : Option ℕ) → ReceiverDemand2 u rollover number
 receiver-demand2 u rollover number =
     record {
       ready = λ earlier c i f.

@@ -7,6 +7,7 @@ use mathlib.Core.List.{List}
 use lib.IntN.{pos}
 use lib.ListN.{length}
 use borrow.Author.Tests.{le-leb, lt-leb}
+use Rattle.std.specs.Prelude.{Option, None, Some, Err}
 use Rattle.rtp.specs.Protected.{rtcp_portion}
 use Rattle.transforms.specs.Tag.{rollover_counter}
 use Rattle.transforms.specs.Rcc.{carries_counter, carried_counter}
@@ -15,17 +16,12 @@ use Rattle.transforms.proofs.RccLaws.{carried-back}
 use Rattle.replay.specs.Index.{max_media_index, index_of, estimate, Near}
 use Rattle.replay.specs.Accepted.{mem, start, too_old, accept_all, highest_of}
 use Rattle.replay.specs.Window.{window_length, window_verdict, window_start, window_mark_all}
-use Rattle.replay.specs.declared.index.Highest.{Highest}
-use Rattle.replay.specs.declared.index.Highest.TheVariants.{Absent, At}
 use Rattle.replay.specs.declared.window.Window.{Window}
 use Rattle.replay.proofs.IndexLaws.{estimate-near}
 use Rattle.replay.proofs.AcceptedLaws.{after-highest, after-mem, young-verdict}
 use Rattle.replay.proofs.WindowLaws.{start-means, after-means, window-is-set}
-use Rattle.srtp.specs.declared.LastNumber.{LastNumber}
-use Rattle.srtp.specs.declared.LastNumber.TheVariants.{Unknown, Known}
 use Rattle.session.specs.declared.Session.{Session}
 use Rattle.srtp.specs.declared.Receiver.{Receiver}
-use Rattle.srtp.specs.declared.Answer.TheVariants.{Refused}
 use Rattle.srtp.specs.declared.Refusal.TheVariants.{Repeat}
 use Rattle.srtp.specs.Outcomes.{refused, done, answer_of}
 use Rattle.session.specs.Packets.{ssrc_of, cipher_of, integrity_of, tag_length, encrypts, ciphered_media, media_tag, ciphered_control}
@@ -83,18 +79,18 @@ sender-demand3 u =
 
 -- ---- receiver
 -- what is within reach is not too old
-not-old : (whole : Bool) (rollover : ℕ) (h : Highest) (i : ℕ) → Reaches whole rollover h i → too_old window_length h i ≡ false
-not-old true rollover Absent i w = refl
-not-old true rollover (At h) i w = lt-leb (i + window_length) h (omega arith)
-not-old false rollover Absent i w = refl
-not-old false rollover (At h) i w = lt-leb (i + window_length) h (omega (arith, w.0))
+not-old : (whole : Bool) (rollover : ℕ) (h : Option ℕ) (i : ℕ) → Reaches whole rollover h i → too_old window_length h i ≡ false
+not-old true rollover None i w = refl
+not-old true rollover (Some h) i w = lt-leb (i + window_length) h (omega arith)
+not-old false rollover None i w = refl
+not-old false rollover (Some h) i w = lt-leb (i + window_length) h (omega (arith, w.0))
 
 -- and is found: by its number where that names it; else by the rollover counter that the tag of index i carries
-near : (rollover : ℕ) (h : Highest) (i : ℕ) → Reaches false rollover h i → Near window_length rollover h i
-near rollover Absent i w = w
-near rollover (At h) i w = (omega (arith, w.0), omega (arith, w.1))
+near : (rollover : ℕ) (h : Option ℕ) (i : ℕ) → Reaches false rollover h i → Near window_length rollover h i
+near rollover None i w = w
+near rollover (Some h) i w = (omega (arith, w.0), omega (arith, w.1))
 
-found : (whole : Bool) (rollover : ℕ) (h : Highest) (i : ℕ) (t : List ℕ) → (whole ≡ true → carried_counter t ≡ rollover_counter i) →
+found : (whole : Bool) (rollover : ℕ) (h : Option ℕ) (i : ℕ) (t : List ℕ) → (whole ≡ true → carried_counter t ≡ rollover_counter i) →
     Reaches whole rollover h i → cond whole (pos (index_of (carried_counter t) (i % 65536))) (estimate rollover (i % 65536) h) ≡ pos i
 found true rollover h i t c w = ap pos (omega (arith, c refl))
 found false rollover h i t c w = estimate-near window_length rollover h i (omega arith) (near rollover h i w)
@@ -117,13 +113,13 @@ below_of : (k : Kind) (p : List ℕ) (i : ℕ) → HasIndex k p i → i ≤ max_
 below_of media p i h = h.1
 below_of control p i h = h
 
-starts-below : (rollover : ℕ) (number : LastNumber) → rollover < 2 ^ 32 → NumberFits number →
+starts-below : (rollover : ℕ) (number : Option ℕ) → rollover < 2 ^ 32 → NumberFits number →
     highest_at_most max_media_index (start_highest rollover number) ≡ true
-starts-below rollover Unknown w f = refl
-starts-below rollover (Known q) w f = le-leb (index_of rollover q) max_media_index (omega arith)
+starts-below rollover None w f = refl
+starts-below rollover (Some q) w f = le-leb (index_of rollover q) max_media_index (omega arith)
 
 -- a receiver r after earlier calls, from a set-up that is not refused
-module _ (u : SetUp) (rollover : ℕ) (number : LastNumber) (w : rollover < 2 ^ 32) (f : NumberFits number) (g : listed u ≡ true)
+module _ (u : SetUp) (rollover : ℕ) (number : Option ℕ) (w : rollover < 2 ^ 32) (f : NumberFits number) (g : listed u ≡ true)
     (earlier : List Call) where
   abbrev r₀ : Receiver
   r₀ = start_receiver u rollover number
@@ -134,7 +130,7 @@ module _ (u : SetUp) (rollover : ℕ) (number : LastNumber) (w : rollover < 2 ^ 
   abbrev indices : Kind → List ℕ
   indices k = accepted k (start_receiver u rollover number) earlier
 
-  abbrev h₀ : Kind → Highest
+  abbrev h₀ : Kind → Option ℕ
   h₀ k = highest_at_start u rollover number k
 
   start-listed : receiver_listed r₀ ≡ true
@@ -188,7 +184,7 @@ module _ (u : SetUp) (rollover : ℕ) (number : LastNumber) (w : rollover < 2 ^ 
       (finds k u r p i session-is t.has_index reach')
       (verdict-is k i (not-old (has_whole_index k u i) rollover _ i reach))
 
-module _ (u : SetUp) (rollover : ℕ) (number : LastNumber) where
+module _ (u : SetUp) (rollover : ℕ) (number : Option ℕ) where
   -- the same of a run from set-up on
   on-made : rollover < 2 ^ 32 → NumberFits number → (earlier : List Call) (c : Call) (p : List ℕ) (i : ℕ) (seen : Bool) → Made c.kind u p i c.packet →
       mem i (accepted_as u rollover number c.kind earlier) ≡ seen → WithinReach u rollover number c.kind earlier i →
@@ -212,5 +208,5 @@ module _ (u : SetUp) (rollover : ℕ) (number : LastNumber) where
   -- and what was accepted already is refused as REPEAT, if it is within reach and the buffer has room
   pub repeat-refused : rollover < 2 ^ 32 → NumberFits number → (earlier : List Call) (c : Call) (p : List ℕ) (i : ℕ) → Made c.kind u p i c.packet →
       mem i (accepted_as u rollover number c.kind earlier) ≡ true → WithinReach u rollover number c.kind earlier i →
-      length p ≤ length c.buffer → answer_of (receiver_outcome u rollover number earlier c) ≡ Refused Repeat
+      length p ≤ length c.buffer → answer_of (receiver_outcome u rollover number earlier c) ≡ Err Repeat
   repeat-refused w f earlier c p i made old reach fits = ap answer_of (on-made w f earlier c p i true made old reach fits)

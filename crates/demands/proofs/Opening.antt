@@ -9,6 +9,7 @@ use lib.Dec.{eqb, ltb}
 use lib.IntN.{pos}
 use lib.ListN.{length}
 use borrow.Author.Tests.{le-ltb, eq-eqb}
+use Rattle.std.specs.Prelude.{Result, Ok, Err}
 use Rattle.octets.specs.Equal.{same}
 use Rattle.octets.proofs.EqualLaws.{same_refl}
 use Rattle.rtp.specs.Rtp.{is_rtp, sequence_number, rtp_ssrc}
@@ -17,8 +18,8 @@ use Rattle.rtp.specs.Protected.{mki_of, tag_of, rtcp_portion, word_of, index_wor
 use Rattle.rtp.proofs.IndexWordLaws.{word-flag, word-index}
 use Rattle.replay.specs.Index.{max_media_index}
 use Rattle.replay.specs.Window.{window_length, window_verdict}
-use Rattle.replay.specs.declared.window.Verdict.{Verdict}
-use Rattle.replay.specs.declared.window.Verdict.TheVariants as verdict
+use Rattle.replay.specs.declared.window.Replayed.{Replayed}
+use Rattle.replay.specs.declared.window.Replayed.TheVariants as replayed
 use Rattle.session.specs.declared.Session.{Session}
 use Rattle.srtp.specs.declared.Receiver.{Receiver}
 use Rattle.srtp.specs.declared.Refusal.TheVariants as refusal
@@ -39,8 +40,8 @@ Finds media r p i = media_place r (sequence_number p) (media_tag r.session (ciph
 Finds control r p i = Unit {0}
 
 -- the window's verdict on an index that is not old, and its rows
-abbrev pub young_verdict : Bool → Verdict
-young_verdict seen = cond seen verdict.Repeat verdict.New
+abbrev pub young_verdict : Bool → Result Unit Replayed
+young_verdict seen = cond seen (Err replayed.Repeat) (Ok tt)
 
 young : (seen : Bool) → is_old (young_verdict seen) ≡ false
 young true = refl

@@ -7,14 +7,12 @@ use mathlib.Core.Bool.{Bool, true, ◌&&◌}
 use mathlib.Core.List.{List, [], ◌∷◌, ◌++◌}
 use lib.ListN.{length}
 use borrow.Author.Tests.{le-leb, leb-true}
-use Rattle.rtp.proofs.AnswerLaws.{both}
+use Rattle.std.specs.Prelude.{Option, None, Some, Ok}
+use Rattle.std.proofs.lemmas.Bool.{and_parts}
 use Rattle.replay.specs.Index.{max_media_index, max_control_index}
 use Rattle.replay.specs.Accepted.{raise}
 use Rattle.replay.specs.Window.{window_length, window_verdict, window_mark, window_mark_all}
-use Rattle.replay.specs.declared.index.Highest.{Highest}
-use Rattle.replay.specs.declared.index.Highest.TheVariants.{Absent, At}
 use Rattle.replay.specs.declared.window.Window.{Window}
-use Rattle.replay.specs.declared.window.Verdict.TheVariants.{New}
 use Rattle.srtp.specs.declared.Receiver.{Receiver}
 use Rattle.srtp.specs.Outcomes.{Outcome, refused, done, answer_of, next_of}
 use Rattle.session.specs.SetUps.{settings_listed}
@@ -32,16 +30,16 @@ unfolding receiver_listed
 receiver-parts r g =
     let m : Bool = highest_at_most max_media_index r.media.highest in
     let c : Bool = highest_at_most max_control_index r.control.highest in
-    let a = both (settings_listed r.session.settings) (m && c) g in
-    let b = both m c a.1 in
+    let a = and_parts (settings_listed r.session.settings) (m && c) g in
+    let b = and_parts m c a.1 in
     (a.0, b.0, b.1)
 
 pub receiver-settings : (r : Receiver) → receiver_listed r ≡ true → settings_listed r.session.settings ≡ true
 receiver-settings r g = (receiver-parts r g).0
 
-raise-most : (n : ℕ) (h : Highest) (i : ℕ) → highest_at_most n h ≡ true → i ≤ n → highest_at_most n (raise h i) ≡ true
-raise-most n Absent i e l = le-leb i n l
-raise-most n (At h) i e l = le-leb (max h i) n (omega (arith, leb-true h n e))
+raise-most : (n : ℕ) (h : Option ℕ) (i : ℕ) → highest_at_most n h ≡ true → i ≤ n → highest_at_most n (raise h i) ≡ true
+raise-most n None i e l = le-leb i n l
+raise-most n (Some h) i e l = le-leb (max h i) n (omega (arith, leb-true h n e))
 
 marked-listed : (k : Kind) (r : Receiver) (i : ℕ) → receiver_listed r ≡ true → i ≤ max_index k → receiver_listed (marked k r i) ≡ true
 unfolding receiver_listed
@@ -76,7 +74,7 @@ run-kept r (c ∷ cs) =
 -- ---- the windows: a call leaves one as it was and accepts nothing for it, or marks the new index that it accepts
 data Step (w : Window) : Window → List ℕ → Type 0 where
   still : Step w w []
-  moves : (i : ℕ) → window_verdict window_length w i ≡ New → Step w (window_mark window_length w i) (i ∷ [])
+  moves : (i : ℕ) → window_verdict window_length w i ≡ Ok tt → Step w (window_mark window_length w i) (i ∷ [])
 
 step : (k j : Kind) (r : Receiver) (b : List ℕ) (room : ℕ) (o : Outcome Receiver) → receive j r b room ≡ o →
     Step (window_of k r) (window_of k (next_of o r)) (accepted_by k j (answer_of o))

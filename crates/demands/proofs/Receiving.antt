@@ -7,6 +7,7 @@ use mathlib.Core.List.{List}
 use lib.IntN.{ℤ, pos, negsuc}
 use lib.ListN.{length}
 use borrow.Author.Tests.{ltb-false, not-false, eqb-true}
+use Rattle.std.specs.Prelude.{Result, Ok, Err}
 use Rattle.octets.specs.BigEndian.{Bytes}
 use Rattle.octets.proofs.EqualLaws.{same_true}
 use Rattle.rtp.specs.Rtp.{is_rtp, sequence_number}
@@ -19,8 +20,8 @@ use Rattle.transforms.specs.Rcc.{carries_counter, carried_counter}
 use Rattle.replay.specs.Index.{max_media_index, index_of, estimate}
 use Rattle.replay.specs.Window.{window_length, window_verdict}
 use Rattle.replay.specs.declared.window.Window.{Window}
-use Rattle.replay.specs.declared.window.Verdict.{Verdict}
-use Rattle.replay.specs.declared.window.Verdict.TheVariants.{New, Old, Repeat}
+use Rattle.replay.specs.declared.window.Replayed.{Replayed}
+use Rattle.replay.specs.declared.window.Replayed.TheVariants as replayed
 use Rattle.replay.proofs.IndexLaws.{estimate-number}
 use Rattle.session.specs.declared.Session.{Session}
 use Rattle.srtp.specs.declared.Receiver.{Receiver}
@@ -37,20 +38,20 @@ use Rattle.demands.proofs.PacketKinds.{ReadAs, TaggedAs, window_of, marked, Admi
 -- the call on r accepts b at i, p comes out, and r' is left
 pub record Accepts (k : Kind) (r : Receiver) (b : List ℕ) (room : ℕ) (p : List ℕ) (i : ℕ) (r' : Receiver) : Type 0 where
   pub admits : Admits k r p i room
-  pub new : window_verdict window_length (window_of k r) i ≡ New
+  pub new : window_verdict window_length (window_of k r) i ≡ Ok tt
   pub tagged : TaggedAs k r.session b i
   pub has_index : Bytes b → HasIndex k p i
   pub bytes : Bytes b → ReadAs k r.session b p i
   pub next : r' ≡ marked k r i
 
-is-new : (v : Verdict) → is_old v ≡ false → is_repeat v ≡ false → v ≡ New
-is-new New a b = refl
-is-new Old a b = absurd (true≢false a)
-is-new Repeat a b = absurd (true≢false b)
+is-new : (v : Result Unit Replayed) → is_old v ≡ false → is_repeat v ≡ false → v ≡ Ok tt
+is-new (Ok u) a b = refl
+is-new (Err replayed.Old) a b = absurd (true≢false a)
+is-new (Err replayed.Repeat) a b = absurd (true≢false b)
 
 -- an index that passes SPENT, OLD and REPEAT
 pub record Passes (w : Window) (k : ℤ) : Type 0 where
-  pub new : window_verdict window_length w (natural k) ≡ New
+  pub new : window_verdict window_length w (natural k) ≡ Ok tt
   pub below : natural k ≤ max_media_index
   pub at : k ≡ pos (natural k)
 
@@ -112,7 +113,7 @@ control-accepts r b room k p i r' n
     let g : is_rtcp c ≡ true = not-false _ shape in
     let mki : mki_of (length (mki_bytes s)) control_tag_length b ≡ mki_bytes s = same_true _ _ (not-false _ key) in
     let tag : tag_of control_tag_length b ≡ control_tag s a = same_true _ _ (not-false _ forged) in
-    let new : window_verdict window_length r.control k ≡ New = is-new _ old-is repeat in
+    let new : window_verdict window_length r.control k ≡ Ok tt = is-new _ old-is repeat in
     let most : i ≤ 2 ^ 31 - 1 = rw (n, e₁) at (index-most (word_of a)) in
     record {
       admits = record {

@@ -7,13 +7,12 @@ use mathlib.Core.List.{List}
 use lib.Dec.{leb}
 use lib.ListN.{length}
 use borrow.Author.Tests.{ltb-false, leb-false, not-false, eqb-true}
+use Rattle.std.specs.Prelude.{Option, None, Some}
+use Rattle.std.proofs.lemmas.Bool.{and_parts}
 use Rattle.octets.specs.BigEndian.{Bytes}
 use Rattle.rtp.specs.Rtp.{sequence_number}
-use Rattle.rtp.proofs.AnswerLaws.{both}
 use Rattle.rtp.proofs.RtpLaws.{number_lt}
 use Rattle.replay.specs.Index.{max_media_index, max_control_packets, next_index, out_of_order, media_after}
-use Rattle.replay.specs.declared.index.LastSent.{LastSent}
-use Rattle.replay.specs.declared.index.LastSent.TheVariants as last
 use Rattle.replay.proofs.IndexLaws.{sent-number, sent-rises, sent-near}
 use Rattle.srtp.specs.declared.Sender.{Sender}
 use Rattle.srtp.specs.Outcomes.{Outcome, done, next_of}
@@ -29,9 +28,9 @@ use Rattle.demands.proofs.ControlLaws.{length-srtcp}
 use Rattle.demands.proofs.PacketKinds.{sent_as}
 
 -- the first media index is the packet's number, a later one is past the last by less than 32,768
-abbrev pub Past : LastSent → (number index : ℕ) → Type 0
-Past last.Nothing q i = q ≡ i
-Past (last.At l) q i = (l < i) × (i < l + 32768)
+abbrev pub Past : Option ℕ → (number index : ℕ) → Type 0
+Past None q i = q ≡ i
+Past (Some l) q i = (l < i) × (i < l + 32768)
 
 -- it becomes the last one; sending control leaves that as it is
 abbrev pub Turns : Kind → Sender → (packet : List ℕ) → (index : ℕ) → Sender → Type 0
@@ -53,11 +52,11 @@ pub record Sends (k : Kind) (s : Sender) (p : List ℕ) (room : ℕ) (b : List �
 sender-settings : (s : Sender) → sender_listed s ≡ true → settings_listed s.session.settings ≡ true
 unfolding sender_listed
 sender-settings s g =
-    (both (settings_listed s.session.settings) (last_at_most max_media_index s.media.last && leb s.control.sent max_control_packets) g).0
+    (and_parts (settings_listed s.session.settings) (last_at_most max_media_index s.media.last && leb s.control.sent max_control_packets) g).0
 
-next_past : (l : LastSent) (q i : ℕ) → next_index l q ≡ i → out_of_order l q ≡ false → Past l q i
-next_past last.Nothing q i e o = e
-next_past (last.At l) q i e o = (rw e at (sent-rises l q o), rw e at (sent-near l q o))
+next_past : (l : Option ℕ) (q i : ℕ) → next_index l q ≡ i → out_of_order l q ≡ false → Past l q i
+next_past None q i e o = e
+next_past (Some l) q i e o = (rw e at (sent-rises l q o), rw e at (sent-near l q o))
 
 media-sends : (s : Sender) (p : List ℕ) (room : ℕ) (b : List ℕ) (k i : ℕ) (s' : Sender) →
     next_index s.media.last (sequence_number p) ≡ k → NoneHolds (send_media_rows s p room) → media_sent s p k ≡ done b i s' →

@@ -5,7 +5,7 @@ use mathlib.Core.Path.{◌≡◌, refl, sym, ap, ◌∙◌}
 use mathlib.Core.Bool.{Bool, true, false, cond, true≢false}
 use mathlib.Core.List.{List, [], ◌∷◌}
 use lib.ListN.{length}
-use Rattle.srtp.specs.declared.LastNumber.{LastNumber}
+use Rattle.std.specs.Prelude.{Option}
 use Rattle.session.specs.declared.Session.{Session}
 use Rattle.srtp.specs.declared.Sender.{Sender}
 use Rattle.srtp.specs.Outcomes.{Outcome, refused, done, next_of}
@@ -46,7 +46,7 @@ sender-first u = go (listed u) refl
     go true g = rw g
     go false g = rw g
 
-receiver-first : (u : SetUp) (rollover : ℕ) (number : LastNumber) → (set_up_receiver u rollover number).context.session ≡ first_session u
+receiver-first : (u : SetUp) (rollover : ℕ) (number : Option ℕ) → (set_up_receiver u rollover number).context.session ≡ first_session u
 unfolding set_up_receiver closed_receiver
 receiver-first u rollover number = go (listed u) refl
   where
@@ -57,7 +57,7 @@ receiver-first u rollover number = go (listed u) refl
 pub sender-session : (u : SetUp) (cs : List Call) → (sender_after u cs).session ≡ first_session u
 sender-session u cs = run-session (set_up_sender u).context cs ∙ sender-first u
 
-pub receiver-session : (u : SetUp) (rollover : ℕ) (number : LastNumber) (cs : List Call) →
+pub receiver-session : (u : SetUp) (rollover : ℕ) (number : Option ℕ) (cs : List Call) →
     (receiver_after u rollover number cs).session ≡ first_session u
 receiver-session u rollover number cs =
     (run-kept (set_up_receiver u rollover number).context cs).session ∙ receiver-first u rollover number
@@ -75,7 +75,7 @@ ready u s e g = go (listed u) refl
     go false h = let c : s ≡ closed_session = e ∙ rw h in absurd (true≢false (sym g ∙ ap (λ (x : Session). settings_listed x.settings) c))
 
 -- ---- the contexts of a set-up that is not refused
-pub receiver-begun : (u : SetUp) (rollover : ℕ) (number : LastNumber) → listed u ≡ true →
+pub receiver-begun : (u : SetUp) (rollover : ℕ) (number : Option ℕ) → listed u ≡ true →
     (set_up_receiver u rollover number).context ≡ start_receiver u rollover number
 unfolding set_up_receiver
 receiver-begun u rollover number g = rw g

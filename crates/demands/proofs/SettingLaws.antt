@@ -6,8 +6,8 @@ use mathlib.Core.Bool.{Bool, true, ◌&&◌}
 use mathlib.Core.List.{List}
 use lib.Dec.{eqb}
 use lib.ListN.{length, replicate}
+use Rattle.std.proofs.lemmas.Bool.{and_parts}
 use Rattle.octets.proofs.BufferLaws.{take-over}
-use Rattle.rtp.proofs.AnswerLaws.{both}
 use Rattle.transforms.proofs.TagLaws as tag
 use Rattle.transforms.proofs.RccLaws.{length-integrity_tag}
 use Rattle.session.proofs.SessionLaws.{settings-listed}
@@ -24,8 +24,8 @@ pub session-listed : (u : SetUp) → listed u ≡ true → settings_listed (sess
 unfolding listed session_of
 session-listed u g =
     let s : Bool = settings_listed (session_of u).settings in
-    let a = both (eqb (length u.master_key) 16) (eqb (length u.master_salt) 14 && s) g in
-    (both (eqb (length u.master_salt) 14) s a.1).1
+    let a = and_parts (eqb (length u.master_key) 16) (eqb (length u.master_salt) 14 && s) g in
+    (and_parts (eqb (length u.master_salt) 14) s a.1).1
 
 -- ---- lengths of tags
 module _ (s : Session) where

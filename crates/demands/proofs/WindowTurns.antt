@@ -2,29 +2,29 @@
 use Prim.Native.Nat.{ℕ}
 use native.Mathlib.Omega.{arith}
 use mathlib.Core.Path.{◌≡◌, refl, sym, ◌∙◌}
-use mathlib.Core.Bool.{Bool, true, false, cond}
+use mathlib.Core.Bool.{Bool, true, false}
 use mathlib.Core.List.{List, [], ◌∷◌}
 use borrow.Author.Tests.{ne_eqb}
-use Rattle.replay.specs.Accepted.{mem, Once, too_old}
+use Rattle.std.specs.Prelude.{Ok}
+use Rattle.replay.specs.Accepted.{mem, Once, too_old, judged}
 use Rattle.replay.specs.Window.{window_verdict, window_mark, window_mark_all}
 use Rattle.replay.specs.declared.window.Window.{Window}
-use Rattle.replay.specs.declared.window.Verdict.TheVariants.{New, Old, Repeat}
 use Rattle.replay.proofs.WindowLaws.{marked_refused}
 
 module _ (n : ℕ) where
   abbrev pub NewInTurn : Window → List ℕ → Type 0
   NewInTurn w [] = Unit {0}
-  NewInTurn w (i ∷ is) = (window_verdict n w i ≡ New) × NewInTurn (window_mark n w i) is
+  NewInTurn w (i ∷ is) = (window_verdict n w i ≡ Ok tt) × NewInTurn (window_mark n w i) is
 
   -- i is not new, whatever is marked
   abbrev Never : Window → ℕ → Type 0
-  Never w i = (is : List ℕ) → window_verdict n (window_mark_all n w is) i ≡ New → ⊥
+  Never w i = (is : List ℕ) → window_verdict n (window_mark_all n w is) i ≡ Ok tt → ⊥
 
   never-marked : (w : Window) (i : ℕ) → Never (window_mark n w i) i
   never-marked w i is e =
       go (too_old n (window_mark_all n (window_mark n w i) is).highest i) (sym (marked_refused n w i is) ∙ e)
     where
-      go : (t : Bool) → cond t Old Repeat ≡ New → ⊥
+      go : (t : Bool) → judged t true ≡ Ok tt → ⊥
       go true z = let y : ◌≡◌ {A = ℕ} 0 1 = cc in omega arith
       go false z = let y : ◌≡◌ {A = ℕ} 0 1 = cc in omega arith
 

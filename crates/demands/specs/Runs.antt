@@ -1,13 +1,10 @@
 -- Runs (01, 'What the link carries'): a context from set-up on and a list of calls on it, in any order, refused calls included.
 -- Each call takes the context that the call before gave back or left. Assumes nothing.
-use Rattle.std.specs.Prelude.{ℕ, List, [], ◌∷◌, ◌++◌, length}
+use Rattle.std.specs.Prelude.{ℕ, List, [], ◌∷◌, ◌++◌, length, Option, Ok, Err}
 use Rattle.octets.specs.BigEndian.{Bytes}
-use Rattle.srtp.specs.declared.Answer.{Answer}
-use Rattle.srtp.specs.declared.Answer.TheVariants.{Sent, Refused}
-use Rattle.srtp.specs.declared.LastNumber.{LastNumber}
 use Rattle.srtp.specs.declared.Sender.{Sender}
 use Rattle.srtp.specs.declared.Receiver.{Receiver}
-use Rattle.srtp.specs.Outcomes.{Outcome, answer_of, next_of}
+use Rattle.srtp.specs.Outcomes.{Outcome, Answer, answer_of, next_of}
 use Rattle.session.specs.SetUps.{SetUp}
 use Rattle.srtp.specs.Contexts.{set_up_sender, set_up_receiver}
 use Rattle.srtp.specs.Calls.{send_media, send_control, receive_media, receive_control}
@@ -44,14 +41,14 @@ after call s (c ∷ cs) = after call (next_of (call s c) s) cs
 abbrev pub sender_after : SetUp → List Call → Sender
 sender_after u cs = after sending (set_up_sender u).context cs
 
-abbrev pub receiver_after : SetUp → (rollover : ℕ) → LastNumber → List Call → Receiver
+abbrev pub receiver_after : SetUp → (rollover : ℕ) → Option ℕ → List Call → Receiver
 receiver_after u rollover number cs = after receiving (set_up_receiver u rollover number).context cs
 
 -- the outcome of a call of a run, after the earlier calls
 abbrev pub sender_outcome : SetUp → (earlier : List Call) → Call → Outcome Sender
 sender_outcome u earlier c = sending (sender_after u earlier) c
 
-abbrev pub receiver_outcome : SetUp → (rollover : ℕ) → LastNumber → (earlier : List Call) → Call → Outcome Receiver
+abbrev pub receiver_outcome : SetUp → (rollover : ℕ) → Option ℕ → (earlier : List Call) → Call → Outcome Receiver
 receiver_outcome u rollover number earlier c = receiving (receiver_after u rollover number earlier) c
 
 -- what the calls of a list are given are bytes, as the types of the code have it
@@ -62,8 +59,8 @@ BytesIn (c ∷ cs) = Bytes c.packet × BytesIn cs
 -- ---- the indices that calls accept (01: let in), the earliest first
 -- an answer with a finished packet gives one index, a refusal none
 abbrev pub index_in : Answer → List ℕ
-index_in (Sent len i) = i ∷ []
-index_in (Refused n) = []
+index_in (Ok f) = f.index ∷ []
+index_in (Err n) = []
 
 -- as media if the call receives media, as control if it receives control
 abbrev pub accepted_by : (k kind : Kind) → Answer → List ℕ

@@ -1,18 +1,12 @@
 -- The words of demands 2 and 3 (01, 'The words of demand 3'), in terms of the set-up and the list of calls. What 01 calls one set-up is
 -- one value of `SetUp`, the integrity transform and its rate among its settings. Assumes nothing.
-use Rattle.std.specs.Prelude.{ℕ, ◌+◌, ◌-◌, ◌/◌, ◌%◌, ◌^◌, ◌≤◌, ◌<◌, ◌≡◌, Bool, true, false, List, length, take}
+use Rattle.std.specs.Prelude.{ℕ, ◌+◌, ◌-◌, ◌/◌, ◌%◌, ◌^◌, ◌≤◌, ◌<◌, ◌≡◌, Bool, true, false, List, length, take, Option, None, Some, Ok, Err}
 use Rattle.rtp.specs.Rtp.{is_rtp, sequence_number, rtp_ssrc}
 use Rattle.rtp.specs.Rtcp.{is_rtcp, rtcp_ssrc}
 use Rattle.rtp.specs.Protected.{authenticated_portion, tag_of, word_of, e_flag}
 use Rattle.transforms.specs.Rcc.{carries_counter}
 use Rattle.replay.specs.Accepted.{mem, highest_of}
-use Rattle.replay.specs.declared.index.Highest.{Highest}
-use Rattle.replay.specs.declared.index.Highest.TheVariants.{Absent, At}
-use Rattle.srtp.specs.declared.Answer.{Answer}
-use Rattle.srtp.specs.declared.Answer.TheVariants.{Sent, Refused}
-use Rattle.srtp.specs.declared.LastNumber.{LastNumber}
-use Rattle.srtp.specs.declared.LastNumber.TheVariants.{Unknown, Known}
-use Rattle.srtp.specs.Outcomes.{Outcome, answer_of, buffer_of}
+use Rattle.srtp.specs.Outcomes.{Outcome, Answer, answer_of, buffer_of}
 use Rattle.session.specs.Packets.{control_tag_length, encrypts}
 use Rattle.session.specs.SetUps.{SetUp, listed}
 use Rattle.srtp.specs.Contexts.{start_highest, set_up_receiver}
@@ -23,19 +17,19 @@ use Rattle.demands.specs.Rfc3711.{srtp_tag, srtp_packet, srtcp_tag, srtcp_packet
 -- ---- what a call answers
 -- a finished packet with index i (01: sent at i, of a call that sends; let in as i, of a call that receives)
 abbrev pub FinishedAt : {S : Type 0} → Outcome S → (index : ℕ) → Type 0
-FinishedAt o i = (len : ℕ) × (answer_of o ≡ Sent len i)
+FinishedAt o i = (len : ℕ) × (answer_of o ≡ Ok (record { len = len; index = i }))
 
 -- what comes out: the outgoing buffer from its start for the answered length
 abbrev pub answered_length : Answer → ℕ
-answered_length (Sent len i) = len
-answered_length (Refused n) = 0
+answered_length (Ok f) = f.len
+answered_length (Err n) = 0
 
 abbrev pub comes_out : {S : Type 0} → Outcome S → (buffer : List ℕ) → List ℕ
 comes_out o d = take (answered_length (answer_of o)) (buffer_of o d)
 
 -- a finished packet with index i that comes out as b, whole
 pub record Finishes {S : Type 0} (o : Outcome S) (buffer b : List ℕ) (i : ℕ) : Type 0 where
-  pub answer : answer_of o ≡ Sent (length b) i
+  pub answer : answer_of o ≡ Ok (record { len = length b; index = i })
   pub out_is : comes_out o buffer ≡ b
 
 -- ---- made (01)
@@ -101,24 +95,24 @@ has_whole_index control u i = true
 -- at most 1,023 behind the highest index. A packet without its whole index is at most 32,767 ahead of it too, and carries the rollover
 -- counter that set-up gave where there is no highest index; one that has it may be ahead by any amount, and have any index where there is
 -- none
-abbrev pub Reaches : (whole : Bool) → (rollover : ℕ) → Highest → (index : ℕ) → Type 0
-Reaches false rollover Absent i = Carries i rollover
-Reaches false rollover (At h) i = (h ≤ i + 1023) × (i ≤ h + 32767)
-Reaches true rollover Absent i = Unit {0}
-Reaches true rollover (At h) i = h ≤ i + 1023
+abbrev pub Reaches : (whole : Bool) → (rollover : ℕ) → Option ℕ → (index : ℕ) → Type 0
+Reaches false rollover None i = Carries i rollover
+Reaches false rollover (Some h) i = (h ≤ i + 1023) × (i ≤ h + 32767)
+Reaches true rollover None i = Unit {0}
+Reaches true rollover (Some h) i = h ≤ i + 1023
 
-module _ (u : SetUp) (rollover : ℕ) (number : LastNumber) where
+module _ (u : SetUp) (rollover : ℕ) (number : Option ℕ) where
   -- the indices accepted as k (01: let in) by a list of calls from set-up on
   abbrev pub accepted_as : Kind → List Call → List ℕ
   accepted_as k cs = accepted k (set_up_receiver u rollover number).context cs
 
   -- the receiver's highest index after a list of calls (01): the largest among the indices accepted and, for media, the H that set-up
   -- gives where it is given a last sequence number. With none of these there is none.
-  abbrev pub highest_at_start : Kind → Highest
+  abbrev pub highest_at_start : Kind → Option ℕ
   highest_at_start media = start_highest rollover number
-  highest_at_start control = Absent
+  highest_at_start control = None
 
-  abbrev pub highest : Kind → List Call → Highest
+  abbrev pub highest : Kind → List Call → Option ℕ
   highest k cs = highest_of (highest_at_start k) (accepted_as k cs)
 
   -- new (01): no call of the list accepted i as k
@@ -129,6 +123,6 @@ module _ (u : SetUp) (rollover : ℕ) (number : LastNumber) where
   WithinReach k cs i = Reaches (has_whole_index k u i) rollover (highest k cs) i
 
 -- what set-up is given is a 32-bit rollover counter and a 16-bit sequence number
-abbrev pub NumberFits : LastNumber → Type 0
-NumberFits Unknown = Unit {0}
-NumberFits (Known q) = q < 65536
+abbrev pub NumberFits : Option ℕ → Type 0
+NumberFits None = Unit {0}
+NumberFits (Some q) = q < 65536

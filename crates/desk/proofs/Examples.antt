@@ -1,4 +1,5 @@
 -- Two examples, under any key file: an empty frame alone, and a packet that has no payload. Assumes nothing.
+use Rattle.std.specs.Prelude.{None, Ok, Err}
 use Prim.Native.Nat.{ℕ, ◌-◌, ◌≤◌}
 use mathlib.Core.Bool.{Bool, true, false, cond}
 use mathlib.Core.List.{List, [], ◌∷◌, ◌++◌, append-nil}
@@ -20,11 +21,9 @@ use Rattle.srtp.specs.Calls.{media_portion, media_index, natural, receive_media_
 use Rattle.srtp.specs.Contexts.{closed_receiver, start_receiver, set_up_receiver}
 use Rattle.srtp.specs.Outcomes.{done, settled}
 use Rattle.srtp.specs.Refusals.{Judgement, passes, stops, judged}
-use Rattle.srtp.specs.declared.LastNumber.TheVariants.{Unknown}
+use Rattle.srtp.specs.declared.Made.{Made}
 use Rattle.srtp.specs.declared.Receiver.{Receiver}
 use Rattle.srtp.specs.declared.Refusal.TheVariants.{Setup}
-use Rattle.srtp.specs.declared.ReceiverSetUp.{ReceiverSetUp}
-use Rattle.srtp.specs.declared.SetUpAnswer.TheVariants.{Ready, Refused}
 use Rattle.srtp.proofs.RowLaws.{none-holds}
 use Rattle.desk.specs.Framing.{framed, packets}
 use Rattle.desk.specs.Listening.{set_up_under, fresh, receiver_for, received, written, served, start, output}
@@ -64,8 +63,8 @@ module _ (key : List ℕ) (k : length key ≡ 30) (ssrc : ℕ) where
   fresh-session : (fresh key ssrc).session ≡ session_of u
   unfolding fresh set_up_receiver
   fresh-session =
-      let made : ReceiverSetUp = record { answer = Ready; context = start_receiver u 0 Unknown } in
-      let shut : ReceiverSetUp = record { answer = Refused Setup; context = closed_receiver } in
+      let made : Made Receiver = record { answer = Ok tt; context = start_receiver u 0 None } in
+      let shut : Made Receiver = record { answer = Err Setup; context = closed_receiver } in
       ap (λ (t : Bool). (cond t made shut).context.session) under-listed
 
   -- its tag is the last 10 bytes, and there is no MKI
@@ -96,7 +95,7 @@ module _ (c : Receiver) (p : List ℕ) (q : List ℕ) (i : ℕ) (d : Receiver) w
   let-in-by room passes h e =
       let r = none-holds (receive_media_rows c p room (media_index c p)) h in
       record { rtp = not-false _ r.1.1.0; index = natural (media_index c p); is = cc }
-  let-in-by room (stops n) h e = let z : ◌≡◌ {A = ℕ} 0 1 = cc in let b : ⊥ = omega arith in absurd b
+  let-in-by room (stops n) h e = cc
 
   let-in : (room : ℕ) → receive_media c p room ≡ done q i d → LetIn c p q
   unfolding receive_media

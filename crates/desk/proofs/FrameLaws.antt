@@ -11,9 +11,6 @@ use Rattle.octets.specs.BigEndian.{from_bytes}
 use Rattle.desk.specs.Framing.{announced, whole, completed, begun, packets_from, rest_from, Cut}
 use Rattle.desk.specs.Reads.{Passes}
 
-pub length_more : (f : List ℕ) (b : ℕ) → length (f ++ (b ∷ [])) ≡ length f + 1
-length_more f b = length-append f (b ∷ [])
-
 -- two bytes tell the length, whatever follows
 pub announced-front : (f g : List ℕ) → 2 ≤ length f → announced (f ++ g) ≡ announced f
 unfolding announced
@@ -53,8 +50,8 @@ bytes-pass f x (y ∷ g) c two h =
     let assoc : e ++ (y ∷ g) ≡ f ++ (x ∷ y ∷ g) = append_assoc f (x ∷ []) (y ∷ g) in
     let told : announced e ≡ announced f = announced-front f (x ∷ []) two in
     let all : length (f ++ (x ∷ y ∷ g)) ≡ length f + length (x ∷ y ∷ g) = length-append f (x ∷ y ∷ g) in
-    let cut : whole e ≡ false = not-whole e (omega (arith, length_more f x)) in
-    let two' : 2 ≤ length e = omega (arith, length_more f x) in
+    let cut : whole e ≡ false = not-whole e (omega (arith, length-append f (x ∷ []))) in
+    let two' : 2 ≤ length e = omega (arith, length-append f (x ∷ [])) in
     let h' : length (e ++ (y ∷ g)) ≤ 2 + announced e = omega (arith, ap length assoc) in
     let p = bytes-pass e y g c two' h' in
     record {

@@ -1,23 +1,23 @@
 -- The ways out of the reader's functions. Assumes nothing.
+use Rattle.std.specs.Prelude.{Some}
 use Prim.Native.Nat.{ℕ, zero, suc, ◌+◌, ◌*◌, ◌-◌, ◌%◌, ◌^◌, ◌≤◌, ◌<◌}
 use mathlib.Core.Bool.{Bool, true, false, cond}
 use mathlib.Core.List.{List, [], ◌∷◌, ◌++◌, append_assoc}
 use mathlib.Core.Path.{◌≡◌, refl, sym, ap, ap₂, subst, ◌∙◌}
-use native.Mathlib.Numerals.{add-one}
 use native.Mathlib.Omega.{arith}
 use borrow.Author.Tests.{le-leb, lt-leb, leb-true, leb-false}
 use lib.Dec.{leb}
-use lib.ListN.{length, take, drop, get_or, replicate, length-append, length-drop, length-replicate, take-append-drop}
+use lib.ListN.{length, take, drop, get_or, replicate, length-append, length-replicate, take-append-drop}
 use lib.Seq.{drop-append-le, drop_at, drop-cons, drop-drop, take_at, length-take-le}
+use Rattle.std.proofs.lemmas.List.{take_rest}
 use Rattle.octets.specs.BigEndian.{to_bytes, from_bytes}
 use Rattle.octets.specs.Buffer.{over, over_at}
 use Rattle.octets.proofs.BufferLaws.{over_at-part}
 use Rattle.octets.proofs.BigEndianLaws.{length-to_bytes, from-to_bytes}
 use Rattle.desk.specs.Framing.{announced, whole, completed, begun, packets_from, rest_from}
 use Rattle.desk.specs.Reads.{Gathers, Holds, Standing, Passes, Steps, Takes}
-use Rattle.desk.specs.declared.framing.Found.TheVariants.{Packet, Nothing}
 use Rattle.desk.specs.declared.framing.Reader.{Reader}
-use Rattle.desk.proofs.FrameLaws.{length_more, announced-front, none-completed, all-begun, none-begun, long-completed, short-completed, bytes-pass}
+use Rattle.desk.proofs.FrameLaws.{announced-front, none-completed, all-begun, none-begun, long-completed, short-completed, bytes-pass}
 
 -- ---- Reader::start
 nothing-held : (kept : List ℕ) → Holds (record { got = 0; len = 0 }) kept []
@@ -48,18 +48,17 @@ module _ (r : Reader) (kept : List ℕ) (b : ℕ) (l : b < 256) where
       record { got = omega arith; high = λ k. omega arith; len = λ k. omega arith; bytes = λ k. refl }
   length-gathered g (a ∷ x ∷ f) h =
       let e : r.got ≡ suc (suc (length f)) = h.gathers.got in
-      let z : ⊥ = omega arith in absurd z
+      absurd (omega arith)
 
-  pub length-step : (input : List ℕ) (at : ℕ) → at < length input → b ≡ get_or input at 0 → r.got < 2 → (f : List ℕ) → Holds r kept f
-      → Steps f (drop at input) told kept (drop (at + 1) input)
-  length-step input at i e g f h =
-      let next : drop at input ≡ b ∷ drop (at + 1) input =
-      subst (λ (x : ℕ). drop at input ≡ x ∷ drop (at + 1) input) (sym e) (rw add-one (drop-cons input at 0 i)) in
+  pub length-step : (input : List ℕ) → 0 < length input → b ≡ get_or input 0 0 → r.got < 2 → (f : List ℕ) → Holds r kept f
+      → Steps f input told kept (drop 1 input)
+  length-step input i e g f h =
+      let next : input ≡ b ∷ drop 1 input = subst (λ (x : ℕ). input ≡ x ∷ drop 1 input) (sym e) (drop-cons input 0 0 i) in
       let n : r.got ≡ length f = h.gathers.got in
       record {
         more = f ++ (b ∷ []);
         gathers = length-gathered g f h;
-        within = omega (arith, length_more f b);
+        within = omega (arith, length-append f (b ∷ []));
         passes = record { packets = ap (packets_from f) next; rest = ap (rest_from f) next };
       }
 
@@ -116,7 +115,7 @@ module _ (r : Reader) (kept g : List ℕ) (two : 2 ≤ r.got) (fits : r.got + le
       let two' : 2 ≤ length f = two-of in
       record {
         got = omega (arith, length-append f g);
-        high = λ k. let z : ⊥ = omega (arith, length-append f g) in absurd z;
+        high = λ k. absurd (omega (arith, length-append f g));
         len = λ k. t ∙ sym (announced-front f g two-of);
         bytes = kept-bytes;
       }
@@ -125,7 +124,7 @@ module _ (r : Reader) (kept g : List ℕ) (two : 2 ≤ r.got) (fits : r.got + le
   passed n c = by g refl
     where
       by : (y : List ℕ) → y ≡ g → Passes f (g ++ c) (completed (f ++ g)) (begun (f ++ g)) c
-      by [] e = let z : ⊥ = omega (arith, ap length e) in absurd z
+      by [] e = absurd (omega (arith, ap length e))
       by (x ∷ y) e =
           let q : r.got ≡ length f = count in
           let t : r.len ≡ announced f = told_of in
@@ -143,21 +142,16 @@ module _ (r : Reader) (kept g : List ℕ) (two : 2 ≤ r.got) (fits : r.got + le
         passes = subst (λ (x : List ℕ). Passes f x (completed (f ++ g)) (begun (f ++ g)) c) (sym e) (passed n c);
       }
 
--- the n bytes of the input from place at on
-pub filled : (r : Reader) (kept input : List ℕ) (at n m : ℕ) → 2 ≤ r.got → r.got + n ≤ 2 + r.len → 0 < n → at + n ≤ length input → 2058 ≤ length kept
-    → m ≡ n → (x : List ℕ) → x ≡ cond (leb r.len 2058) (over_at (r.got - 2) (take m (drop at input)) kept) kept
-    → (f : List ℕ) → Holds r kept f → Steps f (drop at input) (record { got = r.got + n; len = r.len }) x (drop (at + n) input)
-filled r kept input at n m two fits some i room e x k f h =
-    let g : List ℕ = take m (drop at input) in
-    let size : length g ≡ n = length-take-le m (drop at input) (omega (arith, length-drop at input)) ∙ e in
-    let end : at + m ≡ at + n = ap (λ (y : ℕ). at + y) e in
-    let parts : drop at input ≡ g ++ drop (at + n) input =
-    sym (take-append-drop m (drop at input)) ∙ ap (λ (y : List ℕ). g ++ y) (drop-drop m at input ∙ ap (λ (y : ℕ). drop y input) end) in
-    subst (λ (y : ℕ). Steps f (drop at input) (record { got = r.got + y; len = r.len }) x (drop (at + n) input)) size
-    (subst
-    (λ (y : List ℕ). Steps f (drop at input) (record { got = r.got + length g; len = r.len }) y (drop (at + n) input))
-    (sym k)
-    (bytes-step r kept g two (omega arith) room f h (omega arith) (drop (at + n) input) (drop at input) parts))
+-- the first n bytes of the input
+pub filled : (r : Reader) (kept input : List ℕ) (n : ℕ) → 2 ≤ r.got → r.got + n ≤ 2 + r.len → 0 < n → n ≤ length input → 2058 ≤ length kept
+    → (x : List ℕ) → x ≡ cond (leb r.len 2058) (over_at (r.got - 2) (take n input) kept) kept
+    → (f : List ℕ) → Holds r kept f → Steps f input (record { got = r.got + n; len = r.len }) x (drop n input)
+filled r kept input n two fits some i room x k f h =
+    let g : List ℕ = take n input in
+    let size : length g ≡ n = length-take-le n input i in
+    subst (λ (y : ℕ). Steps f input (record { got = r.got + y; len = r.len }) x (drop n input)) size
+    (subst (λ (y : List ℕ). Steps f input (record { got = r.got + length g; len = r.len }) y (drop n input)) (sym k)
+    (bytes-step r kept g two (omega arith) room f h (omega arith) (drop n input) input (sym (take-append-drop n input))))
 
 -- ---- Reader::take
 -- the loop so far: from f and the bytes b, reader and kept bytes came to the bytes c, and no packet was found
@@ -166,14 +160,16 @@ pub record Came (f b : List ℕ) (r : Reader) (kept c : List ℕ) : Type 0 where
   pub holds : Holds r kept begun
   pub passes : Passes f b [] begun c
 
-pub came-none : (f b : List ℕ) (r : Reader) (kept : List ℕ) → Holds r kept f → Came f b r kept b
-came-none f b r kept h = record { begun = f; holds = h; passes = record { packets = refl; rest = refl } }
+-- one step: reader and kept bytes were r and d at place at of the input, and are s and e count bytes on
+module _ (f b input : List ℕ) (at count : ℕ) (r s : Reader) (d e : List ℕ) (came : Came f b r d (drop at input))
+    (steps : (g : List ℕ) → Holds r d g → Steps g (take (length input - at) (drop at input)) s e (drop count (take (length input - at) (drop at input)))) where
+  abbrev c : List ℕ
+  c = drop (at + count) input
 
--- one step: reader and kept bytes were r and d at the bytes a, and are s and e at the bytes c
-module _ (f b a c : List ℕ) (r s : Reader) (d e : List ℕ) (came : Came f b r d a)
-    (steps : (g : List ℕ) → Holds r d g → Steps g a s e c) where
-  step : Steps came.begun a s e c
-  step = steps came.begun came.holds
+  step : Steps came.begun (drop at input) s e c
+  step =
+      subst (λ (y : List ℕ). Steps came.begun (drop at input) s e y) (drop-drop count at input)
+      (subst (λ (y : List ℕ). Steps came.begun y s e (drop count y)) (take_rest input at) (steps came.begun came.holds))
 
   abbrev g : List ℕ
   g = step.more
@@ -232,18 +228,16 @@ module _ (f b a c : List ℕ) (r s : Reader) (d e : List ℕ) (came : Came f b r
           passes = subst (λ (ps : List (List ℕ)). Passes f b ps [] c) (long-completed g w (omega arith)) emptied;
         }
 
-    pub takes-packet : (input : List ℕ) (at : ℕ) → c ≡ drop at input → n ≤ 2058 → Takes f b input (record { next = z; at = at; found = Packet n }) e
-    takes-packet input at k l =
+    pub takes-packet : n ≤ 2058 → Takes f b input (record { next = z; at = at + count; found = Some n }) e
+    takes-packet l =
         let q : n ≡ announced g = told-length in
         let m : announced g ≤ 2058 = omega arith in
         let x : length g - 2 ≡ n = omega (arith, full, step.within) in
         let o : take n e ≡ drop 2 g = ap (λ (i : ℕ). take i e) (sym x) ∙ gathered.bytes m in
-        let p : Passes f b (take n e ∷ []) [] c =
-        subst (λ (ps : List (List ℕ)). Passes f b ps [] c) (short-completed g w m ∙ ap (λ (p : List ℕ). p ∷ []) (sym o)) emptied in
         record {
           begun = [];
           holds = none-held z e zh;
-          passes = subst (λ (y : List ℕ). Passes f b (take n e ∷ []) [] y) k p;
+          passes = subst (λ (ps : List (List ℕ)). Passes f b ps [] c) (short-completed g w m ∙ ap (λ (p : List ℕ). p ∷ []) (sym o)) emptied;
         }
 
 -- a reader that goes on holds no whole frame
@@ -252,11 +246,6 @@ started-cut z e = subst (λ (x : Reader). x.got ≤ 1 + x.len) (sym e) (omega ar
 
 pub left_cut : (s : Reader) → leb (2 + s.len) s.got ≡ false → s.got ≤ 1 + s.len
 left_cut s h = omega (arith, leb-false (2 + s.len) s.got h)
-
--- the input's end
-pub takes-nothing : (f b input : List ℕ) (at : ℕ) (r : Reader) (kept : List ℕ) → Came f b r kept (drop at input)
-    → Takes f b input (record { next = r; at = at; found = Nothing }) kept
-takes-nothing f b input at r kept came = record { begun = came.begun; holds = came.holds; passes = came.passes }
 
 -- ---- whatever number of bytes a reader has, if they are no whole frame there are bytes that it holds
 module _ (r : Reader) (kept : List ℕ) (n : ℕ) (e : r.got ≡ 2 + n) (c : r.got ≤ 1 + r.len) (u : r.len < 2 ^ 16) where
@@ -272,7 +261,7 @@ module _ (r : Reader) (kept : List ℕ) (n : ℕ) (e : r.got ≡ 2 + n) (c : r.g
       record {
         gathers = record {
           got = e ∙ sym size;
-          high = λ h. let z : ⊥ = omega arith in absurd z;
+          high = λ h. absurd (omega arith);
           len = λ h. sym tells;
           bytes = λ h. ap (λ (x : ℕ). take x kept) left ∙ k (omega arith) ∙ sym (drop_at t g 2 two);
         };
@@ -285,7 +274,7 @@ module _ (r : Reader) (kept : List ℕ) (n : ℕ) (e : r.got ≡ 2 + n) (c : r.g
       record { begun = _; holds = holds_after (take n kept) (length-take-le n kept (omega arith)) (λ x. refl) }
   holds-bytes room false h =
       let l : 2058 < r.len = leb-false r.len 2058 h in
-      record { begun = _; holds = holds_after (replicate n 0) (length-replicate n 0) (λ x. let z : ⊥ = omega arith in absurd z) }
+      record { begun = _; holds = holds_after (replicate n 0) (length-replicate n 0) (λ x. absurd (omega arith)) }
 
 module _ (r : Reader) (kept : List ℕ) (c : r.got ≤ 1 + r.len) (u : r.len < 2 ^ 16) (room : 2058 ≤ length kept) where
   stands_by : (n : ℕ) → r.got ≡ n → Standing r kept

@@ -13,7 +13,7 @@ use Rattle.desk.specs.Reads.{Holds}
 use Rattle.desk.specs.declared.Listener.{Listener}
 use Rattle.desk.specs.declared.framing.Reader.{Reader}
 use Rattle.desk.proofs.ListenerLaws.{written-length}
-use Rattle.desk.proofs.FrameLaws.{length_more, announced-front, none-completed, all-begun, none-begun, long-completed, short-completed}
+use Rattle.desk.proofs.FrameLaws.{announced-front, none-completed, all-begun, none-begun, long-completed, short-completed}
 
 -- the packet of a frame is not too long, as far as its length is known
 abbrev Kept : List ℕ → Type 0
@@ -21,7 +21,7 @@ Kept f = 2 ≤ length f → announced f ≤ 2058
 
 kept-before : (f : List ℕ) (b : ℕ) → Kept (f ++ (b ∷ [])) → Kept f
 kept-before f b k h =
-    let m : announced (f ++ (b ∷ [])) ≤ 2058 = k (omega (arith, length_more f b)) in
+    let m : announced (f ++ (b ∷ [])) ≤ 2058 = k (omega (arith, length-append f (b ∷ []))) in
     omega (arith, announced-front f (b ∷ []) h)
 
 -- by what the next byte b completes: k bounds what stands of a frame, if it is one that is kept
@@ -34,7 +34,7 @@ module _ (l : Listener) (f bs : List ℕ) (b k : ℕ) (h : Kept f → length f �
   goal ps x = length (served l (ps ++ packets_from x bs)) ≤ k + (1 + length bs)
 
   bound : Kept g → length g ≤ k + 1
-  bound m = let n : length f ≤ k = h (kept-before f b m) in omega (arith, length_more f b)
+  bound m = let n : length f ≤ k = h (kept-before f b m) in omega (arith, length-append f (b ∷ []))
 
   whole_by : (t : Bool) → leb (announced g) 2058 ≡ t → whole g ≡ true → goal (completed g) (begun g)
   whole_by true s w =

@@ -16,7 +16,7 @@ use Rattle.srtp.specs.declared.Receiver.{Receiver}
 use Rattle.srtp.specs.declared.Refusal.TheVariants.{Setup}
 use Rattle.desk.specs.Listening.{received, after, listened, served, start, shut, output}
 use Rattle.desk.specs.Listening.{written as bytes_of}
-use Rattle.desk.specs.Reads.{Holds, Stands, NotWhole, Starts, Serves}
+use Rattle.desk.specs.Reads.{Holds, Stands, NotWhole, Starts, was_taken, written_length, Serves}
 use Rattle.desk.specs.Runs.{Call, Run, taken, written}
 use Rattle.desk.specs.declared.Desk.{Desk}
 use Rattle.desk.specs.declared.Listener.{Listener}
@@ -39,14 +39,14 @@ held_cut r kept f h false e =
 pub starts-cut : (key : List ℕ) (s : Start) → Starts key s → NotWhole s.desk
 starts-cut key s h = held_cut s.desk.frame.reader s.desk.frame.kept [] h.stands false refl
 
-pub serves-cut : (d : Desk) (input before : List ℕ) (s : Served) (out : List ℕ) → Serves d input before s out → s.taken ≡ true → NotWhole s.next
+pub serves-cut : (d : Desk) (input before : List ℕ) (s : Served) (out : List ℕ) → Serves d input before s out → was_taken s ≡ true → NotWhole s.next
 serves-cut d input before s out h e =
     let v = h.standing e in
     let f : List ℕ = rest_from v.begun input in
     held_cut s.next.frame.reader s.next.frame.kept f (h.writes e v.begun v.holds).holds (leb 2 (length f)) refl
 
 pub takes-room : (d : Desk) (input before : List ℕ) (s : Served) (out : List ℕ) → Serves d input before s out → NotWhole d
-    → length input + 4110 ≤ length before → s.taken ≡ true
+    → length input + 4110 ≤ length before → was_taken s ≡ true
 takes-room d input before s out h c room =
     let r : Reader = d.frame.reader in
     h.taken ∙ ap₂ ◌&&◌ (le-leb r.got (1 + r.len) c) (le-leb (length input + 4110) (length before) room)
@@ -59,27 +59,27 @@ Wrote d cs = (f : List ℕ) → Stands d f → written cs ≡ served d.listener 
 module _ (d : Desk) (c : Call) (cs : List Call) (s : Serves d c.input c.before c.result c.out) (later : Wrote c.result.next cs)
     (f : List ℕ) (h : Stands d f) where
   abbrev goal : Bool → Type 0
-  goal t = take c.result.len c.out ++ written cs ≡ served d.listener (packets_from f (cond t c.input [] ++ taken cs))
+  goal t = take (written_length c.result) c.out ++ written cs ≡ served d.listener (packets_from f (cond t c.input [] ++ taken cs))
 
-  one_more : (t : Bool) → c.result.taken ≡ t → goal t
+  one_more : (t : Bool) → was_taken c.result ≡ t → goal t
   one_more true e =
       let w = s.writes e f h in
       let mine : List ℕ = served d.listener (packets_from f c.input) in
       let l : Listener = c.result.next.listener in
-      let first : take c.result.len c.out ≡ mine = ap₂ take w.size w.written ∙ take-over mine c.before in
+      let first : take (written_length c.result) c.out ≡ mine = ap₂ take w.size w.written ∙ take-over mine c.before in
       let rest : written cs ≡ served l (packets_from (rest_from f c.input) (taken cs)) = later (rest_from f c.input) w.holds in
       let next : written cs ≡ served (listened d.listener (packets_from f c.input)) (packets_from (rest_from f c.input) (taken cs)) =
       rest ∙ ap (λ (m : Listener). served m (packets_from (rest_from f c.input) (taken cs))) w.listener in
       ap₂ (λ (x y : List ℕ). x ++ y) first next ∙ served-more d.listener f c.input (taken cs)
   one_more false e =
       let w = s.declines e in
-      let none : take c.result.len c.out ≡ [] = ap (λ (n : ℕ). take n c.out) w.len in
+      let none : take (written_length c.result) c.out ≡ [] = ap (λ (n : ℕ). take n c.out) w.len in
       let rest : Wrote d cs = subst (λ (x : Desk). Wrote x cs) w.next later in
       ap₂ (λ (x y : List ℕ). x ++ y) none (rest f h)
 
 run-wrote : (d : Desk) (cs : List Call) → Run d cs → Wrote d cs
 run-wrote d [] r f h = refl
-run-wrote d (c ∷ cs) r f h = one_more d c cs r.0 (run-wrote c.result.next cs r.1) f h c.result.taken refl
+run-wrote d (c ∷ cs) r f h = one_more d c cs r.0 (run-wrote c.result.next cs r.1) f h (was_taken c.result) refl
 
 -- a desk that is shut writes nothing
 shut-refuses : (p : List ℕ) → received shut p ≡ refused Setup

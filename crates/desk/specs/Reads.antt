@@ -1,20 +1,16 @@
 -- The desk between reads, and what its code promises of a read. Assumes nothing.
-use Rattle.std.specs.Prelude.{ℕ, ◌+◌, ◌-◌, ◌%◌, ◌≤◌, Bool, true, false, cond, ◌&&◌, List, [], ◌∷◌, ◌++◌, ◌≡◌, eqb, leb, length, take, drop}
+use Rattle.std.specs.Prelude.{ℕ, ◌+◌, ◌-◌, ◌%◌, ◌≤◌, Bool, true, false, cond, ◌&&◌, Option, None, Some, is_some, unwrap_or, List, [], ◌∷◌, ◌++◌, ◌≡◌, eqb, leb, length, take, drop}
 use Rattle.octets.specs.Buffer.{over, over_at}
 use Rattle.desk.specs.Framing.{max_frame_length, announced, completed, begun, packets_from, rest_from, Cut}
 use Rattle.desk.specs.Listening.{key_file_length, start, shut, received, after, listened, served}
 use Rattle.desk.specs.Listening.{written as bytes_of}
 use Rattle.desk.specs.declared.Desk.{Desk}
 use Rattle.desk.specs.declared.Listener.{Listener}
-use Rattle.desk.specs.declared.Progress.{Progress}
-use Rattle.desk.specs.declared.Received.{Received}
 use Rattle.desk.specs.declared.Served.{Served}
 use Rattle.desk.specs.declared.Start.{Start}
-use Rattle.desk.specs.declared.Turn.{Turn}
-use Rattle.desk.specs.declared.framing.Found.{Found}
-use Rattle.desk.specs.declared.framing.Found.TheVariants.{Packet, Nothing}
 use Rattle.desk.specs.declared.framing.Reader.{Reader}
 use Rattle.desk.specs.declared.framing.Taken.{Taken}
+use Rattle.desk.specs.declared.serving.Serving.{Serving}
 
 -- ---- the reader
 -- reader and kept bytes are those of the bytes f of a frame: their number, the length that they tell, and the packet's bytes if it is not too long
@@ -47,50 +43,47 @@ pub record Steps (f b : List ℕ) (r : Reader) (kept c : List ℕ) : Type 0 wher
   pub passes : Passes f b (completed more) (begun more) c
 
 -- the packet that was found, the first of the kept bytes
-abbrev pub found_in : List ℕ → Found → List (List ℕ)
-found_in kept (Packet n) = take n kept ∷ []
-found_in kept Nothing = []
+abbrev pub found_in : List ℕ → Option ℕ → List (List ℕ)
+found_in kept (Some n) = take n kept ∷ []
+found_in kept None = []
 
-abbrev pub found_length : Found → ℕ
-found_length (Packet n) = n
-found_length Nothing = 0
+abbrev pub found_length : Option ℕ → ℕ
+found_length (Some n) = n
+found_length None = 0
 
 pub record Takes (f b : List ℕ) (input : List ℕ) (t : Taken) (kept : List ℕ) : Type 0 where
   pub begun : List ℕ
   pub holds : Holds t.next kept begun
   pub passes : Passes f b (found_in kept t.found) begun (drop t.at input)
 
--- ---- a packet: its output at the start of the buffer
-pub record Receives (l : Listener) (p before : List ℕ) (r : Received) (out : List ℕ) : Type 0 where
-  pub next : r.next ≡ after l (received l p)
-  pub len : r.len ≡ length (bytes_of (received l p))
+-- ---- a packet: its output at the start of the buffer, n bytes, and the listener m after it
+pub record Receives (l : Listener) (p before : List ℕ) (m : Listener) (n : ℕ) (out : List ℕ) : Type 0 where
+  pub next : m ≡ after l (received l p)
+  pub len : n ≡ length (bytes_of (received l p))
   pub written : out ≡ over (bytes_of (received l p)) before
-
--- ---- the bytes b of an input: listener and reader came to those of t and to the bytes from t.at on, and wrote some from place len on
-pub record Turns (s : Progress) (f b before : List ℕ) (len : ℕ) (t : Turn) (input kept out : List ℕ) : Type 0 where
-  pub begun : List ℕ
-  pub wrote : List ℕ
-  pub holds : Holds t.next.reader kept begun
-  pub output : served s.listener (packets_from f b) ≡ wrote ++ served t.next.listener (packets_from begun (drop t.at input))
-  pub listener : listened s.listener (packets_from f b) ≡ listened t.next.listener (packets_from begun (drop t.at input))
-  pub rest : rest_from f b ≡ rest_from begun (drop t.at input)
-  pub written : out ≡ over_at len wrote before
-  pub end : t.len ≡ len + length wrote
-
--- ---- a read, where f stands of a frame: its output at the start of the buffer, and what listener, reader and kept bytes come to
-pub record Writes (s : Progress) (f input before : List ℕ) (len : ℕ) (next : Progress) (kept out : List ℕ) : Type 0 where
-  pub size : len ≡ length (served s.listener (packets_from f input))
-  pub written : out ≡ over (served s.listener (packets_from f input)) before
-  pub listener : next.listener ≡ listened s.listener (packets_from f input)
-  pub holds : Holds next.reader kept (rest_from f input)
 
 -- ---- the desk
 -- the bytes f of a frame stand at the desk
 abbrev pub Stands : Desk → (f : List ℕ) → Type 0
 Stands d f = Holds d.frame.reader d.frame.kept f
 
-abbrev pub progress : Desk → Progress
-progress d = record { reader = d.frame.reader; listener = d.listener }
+-- ---- the bytes of an input from s.at on: the desk came to that of t and to the bytes from t.at on, and wrote some from place s.len on
+pub record Turns (s : Serving) (f : List ℕ) (t : Serving) (input before out : List ℕ) : Type 0 where
+  pub begun : List ℕ
+  pub wrote : List ℕ
+  pub holds : Stands t.desk begun
+  pub output : served s.desk.listener (packets_from f (drop s.at input)) ≡ wrote ++ served t.desk.listener (packets_from begun (drop t.at input))
+  pub listener : listened s.desk.listener (packets_from f (drop s.at input)) ≡ listened t.desk.listener (packets_from begun (drop t.at input))
+  pub rest : rest_from f (drop s.at input) ≡ rest_from begun (drop t.at input)
+  pub written : out ≡ over_at s.len wrote before
+  pub end : t.len ≡ s.len + length wrote
+
+-- ---- a read, where f stands of a frame: its output at the start of the buffer, and what listener, reader and kept bytes come to
+pub record Writes (d : Desk) (f input before : List ℕ) (len : ℕ) (next : Desk) (out : List ℕ) : Type 0 where
+  pub size : len ≡ length (served d.listener (packets_from f input))
+  pub written : out ≡ over (served d.listener (packets_from f input)) before
+  pub listener : next.listener ≡ listened d.listener (packets_from f input)
+  pub holds : Stands next (rest_from f input)
 
 -- the desk of a key file; it is shut where the file has another length
 pub record Starts (key : List ℕ) (s : Start) : Type 0 where
@@ -113,15 +106,22 @@ spare_length = 4110
 abbrev pub takes_read : Reader → (input_length room : ℕ) → Bool
 takes_read r n room = leb r.got (1 + r.len) && leb (n + spare_length) room
 
+-- whether it was taken, and the length of its output
+abbrev pub was_taken : Served → Bool
+was_taken s = is_some s.written
+
+abbrev pub written_length : Served → ℕ
+written_length s = unwrap_or s.written 0
+
 -- a read that is not taken changes nothing
 pub record Declines (d : Desk) (before : List ℕ) (s : Served) (out : List ℕ) : Type 0 where
   pub next : s.next ≡ d
-  pub len : s.len ≡ 0
+  pub len : written_length s ≡ 0
   pub written : out ≡ before
 
 pub record Serves (d : Desk) (input before : List ℕ) (s : Served) (out : List ℕ) : Type 0 where
-  pub taken : s.taken ≡ takes_read d.frame.reader (length input) (length before)
-  pub declines : s.taken ≡ false → Declines d before s out
-  pub standing : s.taken ≡ true → Standing d.frame.reader d.frame.kept
-  pub writes : s.taken ≡ true → (f : List ℕ) → Stands d f → Writes (progress d) f input before s.len (progress s.next) s.next.frame.kept out
-  pub fits : s.len ≤ length out
+  pub taken : was_taken s ≡ takes_read d.frame.reader (length input) (length before)
+  pub declines : was_taken s ≡ false → Declines d before s out
+  pub standing : was_taken s ≡ true → Standing d.frame.reader d.frame.kept
+  pub writes : was_taken s ≡ true → (f : List ℕ) → Stands d f → Writes d f input before (written_length s) s.next out
+  pub fits : written_length s ≤ length out

@@ -2,7 +2,7 @@
 use Rattle.std.specs.Prelude.{ℕ, cond, List, [], ◌∷◌, ◌++◌, take}
 use Rattle.desk.specs.Framing.{packets_from, rest_from}
 use Rattle.desk.specs.Listening.{listened, served}
-use Rattle.desk.specs.Reads.{Serves}
+use Rattle.desk.specs.Reads.{was_taken, written_length, Serves}
 use Rattle.desk.specs.declared.Desk.{Desk}
 use Rattle.desk.specs.declared.Listener.{Listener}
 use Rattle.desk.specs.declared.Served.{Served}
@@ -37,8 +37,8 @@ Run d (c ∷ cs) = Serves d c.input c.before c.result c.out × Run c.result.next
 -- the input that was taken, and what was written
 abbrev pub taken : List Call → List ℕ
 taken [] = []
-taken (c ∷ cs) = cond c.result.taken c.input [] ++ taken cs
+taken (c ∷ cs) = cond (was_taken c.result) c.input [] ++ taken cs
 
 abbrev pub written : List Call → List ℕ
 written [] = []
-written (c ∷ cs) = take c.result.len c.out ++ written cs
+written (c ∷ cs) = take (written_length c.result) c.out ++ written cs

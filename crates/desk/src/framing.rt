@@ -13,52 +13,21 @@ pub struct Reader {
     pub len: u16,
 }
 
-// What stands of a frame between two reads: also the first bytes of its packet, if that is not too long.
+// What stands of a frame between two reads: also the first bytes of its packet, if that is not too long. They lie in an array, and the reader
+// has their number: there is no heap.
 #[derive(Clone, Copy)]
 pub struct Frame {
     pub reader: Reader,
-    pub kept: [u8; 2058],
+    pub kept: [u8; MAX_FRAME_LEN],
 }
 
-// What stands of a frame with more of its bytes, and the place in the input up to which bytes were taken.
-#[derive(Clone, Copy)]
-pub struct Step {
-    pub next: Reader,
-    pub at: usize,
-}
-
-// Whether a packet is complete: it is the first bytes of those kept.
-#[derive(Clone, Copy)]
-pub enum Found {
-    Packet(usize),
-    Nothing,
-}
-
-// What was found, and the place in the input up to which bytes were taken.
+// What stands of a frame with more of its bytes; the place in the input up to which bytes were taken; and, where a packet is complete, its
+// length: it is the first bytes of those kept.
 #[derive(Clone, Copy)]
 pub struct Taken {
     pub next: Reader,
     pub at: usize,
-    pub found: Found,
-}
-
-fn wide(b: u8) -> u16
-    ensures { result ≡ b }
-{
-    b as u16
-}
-
-fn size(n: u16) -> usize
-    ensures { result ≡ n }
-{
-    n as usize
-}
-
-fn least(a: usize, b: usize) -> usize
-    ensures most { (result ≤ a) × (result ≤ b) }
-    ensures some { 0 < a → 0 < b → 0 < result }
-{
-    if a < b { a } else { b }
+    pub found: Option<usize>,
 }
 
 impl Frame {
@@ -73,6 +42,8 @@ impl Frame {
     }
 }
 
+// The kept bytes go in beside the reader, and each contract asks for their room: `Reader::take` is public and takes any slice that has it, which
+// a struct of the two would not.
 impl Reader {
     // Nothing of a frame.
     pub fn start() -> Reader
@@ -87,7 +58,7 @@ impl Reader {
         ensures { result ≡ record { got = self.got + 1; len = self.len % 256 * 256 + byte } }
     {
         let high = self.len % 0x100;
-        let low = wide(byte);
+        let low = u16::from(byte);
         let told = high * 0x100 + low;
         Reader {
             got: self.got + 1,
@@ -95,51 +66,44 @@ impl Reader {
         }
     }
 
-    // As many bytes of the packet as the input has. Those of one that is too long are counted and not kept.
-    fn fill(self, input: &[u8], at: usize, kept: &mut [u8]) -> Step
-        requires { (2 ≤ self.got) × (self.got < 2 + self.len) × (at < length input.now) × (2058 ≤ length kept.old) }
-        ensures progress { (at < result.at) × (result.at ≤ length input.now) }
-        ensures steps { (f : List ℕ) → Holds self kept.old f → Steps f (drop at input.now) result.next kept.new (drop result.at input.now) }
+    // As many bytes of the packet as `input` has; their number. Those of a packet that is too long are counted and not kept.
+    fn fill(&mut self, input: &[u8], kept: &mut [u8]) -> usize
+        requires { (2 ≤ self.old.got) × (self.old.got < 2 + self.old.len) × (0 < length input.now) × (2058 ≤ length kept.old) }
+        ensures progress { (0 < result) × (result ≤ length input.now) }
+        ensures steps { (f : List ℕ) → Holds self.old kept.old f → Steps f input.now self.new kept.new (drop result input.now) }
     {
-        let got = self.got;
-        let len = self.len;
-        let told = size(len);
-        let left = 2 + told - got;
-        let n = least(left, input.len() - at);
-        let end = at + n;
+        let told = usize::from(self.len);
+        let left = 2 + told - self.got;
+        let n = left.min(input.len());
         if told > MAX_FRAME_LEN {
-            let skipped = got + n;
-            return Step {
-                next: Reader { got: skipped, len },
-                at: end,
-            };
+            let skipped = self.got + n;
+            self.got = skipped;
+            return n;
         }
-        let from = got - 2;
-        octets::copy_over(&input[at..end], &mut kept[from..]);
-        Step {
-            next: Reader { got: got + n, len },
-            at: end,
-        }
+        let from = self.got - 2;
+        octets::copy_over(&input[..n], &mut kept[from..]);
+        self.got += n;
+        n
     }
 
-    // A byte of the length, or as many bytes of the packet as there are.
-    fn step(self, input: &[u8], at: usize, kept: &mut [u8]) -> Step
-        requires { (self.got ≤ 1 + self.len) × (at < length input.now) × (2058 ≤ length kept.old) }
-        ensures progress { (at < result.at) × (result.at ≤ length input.now) }
-        ensures steps { (f : List ℕ) → Holds self kept.old f → Steps f (drop at input.now) result.next kept.new (drop result.at input.now) }
+    // A byte of the length, or as many bytes of the packet as there are; their number.
+    fn step(&mut self, input: &[u8], kept: &mut [u8]) -> usize
+        requires { (self.old.got ≤ 1 + self.old.len) × (0 < length input.now) × (2058 ≤ length kept.old) }
+        ensures progress { (0 < result) × (result ≤ length input.now) }
+        ensures steps { (f : List ℕ) → Holds self.old kept.old f → Steps f input.now self.new kept.new (drop result input.now) }
     {
         if self.got >= 2 {
-            return self.fill(input, at, kept);
+            return self.fill(input, kept);
         }
-        let next = self.with_length_byte(input[at]);
-        Step { next, at: at + 1 }
+        *self = self.with_length_byte(input[0]);
+        1
     }
 
     // Whether the frame is whole.
     pub fn is_whole(self) -> bool
         ensures { result ≡ leb (2 + self.len) self.got }
     {
-        2 + size(self.len) <= self.got
+        2 + usize::from(self.len) <= self.got
     }
 
     // Takes the bytes of `input` from `from` on, up to the end of the first frame whose packet is not too long, or all of them.
@@ -150,19 +114,18 @@ impl Reader {
     {
         let mut reader = self;
         let mut at = from;
+        // A step takes one byte or many, so no `for` counts them.
         while at < input.len() {
-            let s = reader.step(input, at, kept);
-            reader = s.next;
-            at = s.at;
+            at += reader.step(&input[at..], kept);
             if reader.is_whole() {
-                let len = size(reader.len);
+                let len = usize::from(reader.len);
                 reader = Reader::start();
                 let is_taken = len <= MAX_FRAME_LEN;
                 if is_taken {
                     return Taken {
                         next: reader,
                         at,
-                        found: Found::Packet(len),
+                        found: Some(len),
                     };
                 }
             }
@@ -170,7 +133,7 @@ impl Reader {
         Taken {
             next: reader,
             at,
-            found: Found::Nothing,
+            found: None,
         }
     }
 }

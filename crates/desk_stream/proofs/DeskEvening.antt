@@ -1,5 +1,6 @@
 -- The whole evening at the desk: of whatever the network delivers, with strange packets among it, the desk writes what was sent, each packet
 -- at its first delivery. Assumes nothing.
+use Rattle.std.specs.Prelude.{None}
 use Prim.Native.Nat.{ℕ, ◌≤◌}
 use mathlib.Core.Bool.{Bool, true, false, cond, ◌||◌, or_assoc, or_comm}
 use mathlib.Core.List.{List, [], ◌∷◌, ◌++◌, append_assoc, append-nil, nil≢cons, head-eq_of_cons-eq, tail-eq_of_cons-eq}
@@ -13,7 +14,6 @@ use Rattle.rtp.specs.Rtp.{rtp_ssrc}
 use Rattle.session.specs.SetUps.{SetUp}
 use Rattle.srtp.specs.Contexts.{set_up_receiver}
 use Rattle.srtp.specs.Outcomes.{Outcome, refused, done, next_of}
-use Rattle.srtp.specs.declared.LastNumber.TheVariants.{Unknown}
 use Rattle.srtp.specs.declared.Receiver.{Receiver}
 use Rattle.srtp.specs.declared.Refusal.{Refusal}
 use Rattle.srtp.specs.declared.Refusal.TheVariants.{Repeat}
@@ -25,7 +25,7 @@ use Rattle.evening.specs.Evening.{Genuine, packet_of, bytes_of, Event, genuine, 
 use Rattle.evening.proofs.EventLaws.{bytes-in, calls-append, delivered-append}
 use Rattle.evening.proofs.WholeEvening.{plain-evening}
 use Rattle.desk.specs.Framing.{framed, packets, frames, Framed, not_too_long}
-use Rattle.desk.specs.Listening.{set_up_under, fresh, written, after, served, start, output}
+use Rattle.desk.specs.Listening.{set_up_under, fresh, written, served, start, output}
 use Rattle.desk.proofs.Framings.{frames-read}
 use Rattle.desk_stream.specs.Streams.{room, as_media, as_media_all, frames_out, EachRefused}
 use Rattle.desk_stream.specs.DeskEvening.{Arrival, delivery, stray, arriving, strays, strays_first, event_of, events_of, opened_behind, opened, SupposedAtDesk}
@@ -51,7 +51,7 @@ same-last seen is j s i = ap (λ (b : Bool). eqb i j || b) (s i) ∙ sym (mem-la
 -- ---- a packet that is refused
 refused_as : (o : Outcome Receiver) → IsRefused o → (n : Refusal) × (o ≡ refused n)
 refused_as (refused n) h = (n, refl)
-refused_as (done p i r) (n, e) = let z : ◌≡◌ {A = ℕ} 0 1 = cc in absurd (omega arith)
+refused_as (done p i r) (n, e) = cc
 
 -- a receiver's calls are as without it, whether it is too long for a frame or not
 passed : (r : Receiver) (b : List ℕ) (ps : List (List ℕ)) → IsRefused (receiving r (as_media b)) → (t : Bool) →
@@ -77,7 +77,7 @@ module _ (key : List ℕ) (ssrc : ℕ) (run : List Call) (bytes : BytesIn run) w
   u = set_up_under key ssrc
 
   abbrev r₀ : Receiver
-  r₀ = (set_up_receiver u 0 Unknown).context
+  r₀ = (set_up_receiver u 0 None).context
 
   -- ---- a genuine packet
   made : (g : Genuine u run) → Made media u (packet_of g) g.index (bytes_of g)
@@ -191,7 +191,7 @@ module _ (key : List ℕ) (ssrc : ℕ) (run : List Call) (bytes : BytesIn run) w
         ap (λ (k : ℕ). receiving (fresh key k) (as_media b)) (genuine-ssrc g)
         ∙ ap (λ (r : Receiver). receiving r (as_media b)) (fresh-is key ssrc ∙ sym e) ∙ o.1 in
         by_first key b ps d own
-        ∙ ap (λ (t : List ℕ). framed (packet_of g) ++ t) (fixed-served ps (after (start key) d) refl)
+        ∙ ap (λ (t : List ℕ). framed (packet_of g) ++ t) (fixed-served key ps o.0)
         ∙ ap (λ (x : Outcome Receiver). written x ++ frames_out (next_of x (reader before)) (as_media_all ps)) (sym o.1)
 
     serves : (before : List (Event u run)) (xs : List (Arrival u run)) → Rest before xs → reader before ≡ r₀ → delivered before ≡ [] →

@@ -1,5 +1,6 @@
 -- Whatever bytes come in, the desk's output is frames of packets that RFC 3711 turns into packets of the input, under one SSRC, in order and no
 -- two at one index. Assumes nothing.
+use Rattle.std.specs.Prelude.{None}
 use Prim.Native.Nat.{ℕ}
 use mathlib.Core.Bool.{Bool, true, false, cond, ◌&&◌}
 use mathlib.Core.List.{List, [], ◌∷◌, ◌++◌}
@@ -15,7 +16,6 @@ use Rattle.rtp.proofs.FieldLaws.{bytes_drop}
 use Rattle.session.specs.SetUps.{SetUp}
 use Rattle.srtp.specs.Contexts.{set_up_receiver}
 use Rattle.srtp.specs.Outcomes.{Outcome, refused, done, answer_of, next_of}
-use Rattle.srtp.specs.declared.LastNumber.TheVariants.{Unknown}
 use Rattle.srtp.specs.declared.Receiver.{Receiver}
 use Rattle.demands.specs.Demands.{Opened}
 use Rattle.demands.specs.Runs.{media, Call, receiving, accepted_by, accepted, receiver_after, receiver_outcome}
@@ -118,20 +118,20 @@ module _ (key : List ℕ) (ssrc : ℕ) where
   u = set_up_under key ssrc
 
   abbrev r₀ : Receiver
-  r₀ = (set_up_receiver u 0 Unknown).context
+  r₀ = (set_up_receiver u 0 None).context
 
   one-opened : (earlier : List Call) (b : List ℕ) → Bytes b → (hs : List Opening) → EachOpened u hs → (o : Outcome Receiver)
-      → receiver_outcome u 0 Unknown earlier (as_media b) ≡ o → EachOpened u (opening_by b o ++ hs)
+      → receiver_outcome u 0 None earlier (as_media b) ≡ o → EachOpened u (opening_by b o ++ hs)
   one-opened earlier b y hs h (refused n) e = h
   one-opened earlier b y hs h (done p i r) e =
-      let out : comes_out (receiver_outcome u 0 Unknown earlier (as_media b)) room ≡ p =
+      let out : comes_out (receiver_outcome u 0 None earlier (as_media b)) room ≡ p =
       ap (λ (x : Outcome Receiver). comes_out x room) e ∙ take-over p room in
       (subst (λ (x : List ℕ). Opened media u b x i) out ((stream-demand2 key ssrc).opens earlier (as_media b) i y (length p, ap answer_of e)), h)
 
-  each-opened : (earlier : List Call) (bs : List (List ℕ)) → AllBytes bs → EachOpened u (openings_in (receiver_after u 0 Unknown earlier) bs)
+  each-opened : (earlier : List Call) (bs : List (List ℕ)) → AllBytes bs → EachOpened u (openings_in (receiver_after u 0 None earlier) bs)
   each-opened earlier [] y = tt
   each-opened earlier (b ∷ bs) y =
-      let r : Receiver = receiver_after u 0 Unknown earlier in
+      let r : Receiver = receiver_after u 0 None earlier in
       let o : Outcome Receiver = receiving r (as_media b) in
       one-opened earlier b y.0 (openings_in (next_of o r) bs)
       (subst (λ (x : Receiver). EachOpened u (openings_in x bs)) (after_last receiving r₀ earlier (as_media b))
@@ -142,7 +142,7 @@ with-key : (key input : List ℕ) → Bytes input → length key ≡ 30 → Desk
 with-key key input y k =
     let s : OneStream key (packets input) = one-stream key (packets input) in
     let u : SetUp = set_up_under key s.ssrc in
-    let r : Receiver = (set_up_receiver u 0 Unknown).context in
+    let r : Receiver = (set_up_receiver u 0 None).context in
     record {
       ssrc = s.ssrc;
       openings = openings_in r s.stream;

@@ -1,8 +1,9 @@
 -- What the desk writes is what comes of one receiver's calls: the one that lets a first packet in. Assumes nothing.
+use Rattle.std.specs.Prelude.{Some}
 use Prim.Native.Nat.{ℕ}
-use mathlib.Core.Bool.{Bool, true, cond}
+use mathlib.Core.Bool.{Bool, cond}
 use mathlib.Core.List.{List, [], ◌∷◌, ◌++◌}
-use mathlib.Core.Path.{◌≡◌, refl, sym, ap, ap₂, ◌∙◌}
+use mathlib.Core.Path.{◌≡◌, refl, sym, ap, ◌∙◌}
 use borrow.Author.Tests.{eq-eqb}
 use lib.ListN.{length, length-replicate}
 use Rattle.rtp.specs.Rtp.{rtp_ssrc}
@@ -20,30 +21,31 @@ unfolding room
 room-length = length-replicate {A = ℕ} 2048 0
 
 -- ---- a packet at the desk is a call of a receiver
-fixed-call : (l : Listener) (p : List ℕ) → l.fixed ≡ true → received l p ≡ receiving l.receiver (as_media p)
+abbrev fixed_on : (key : List ℕ) → Receiver → Listener
+fixed_on key r = record { key = key; fixed = Some r }
+
+fixed-call : (key : List ℕ) (r : Receiver) (p : List ℕ) → received (fixed_on key r) p ≡ receiving r (as_media p)
 unfolding received
-fixed-call l p f =
-    ap₂ (λ (t : Bool) (n : ℕ). receive_media (cond t l.receiver (fresh l.key (rtp_ssrc p))) p n) f (sym room-length)
+fixed-call key r p = ap (receive_media r p) (sym room-length)
 
 first-call : (key p : List ℕ) → received (start key) p ≡ receiving (fresh key (rtp_ssrc p)) (as_media p)
 unfolding received
-first-call key p = ap (λ (n : ℕ). receive_media (fresh key (rtp_ssrc p)) p n) (sym room-length)
+first-call key p = ap (receive_media (fresh key (rtp_ssrc p)) p) (sym room-length)
 
 -- ---- once the receiver is fixed
-abbrev FromFixed : List (List ℕ) → Type 0
-FromFixed ps = (l : Listener) → l.fixed ≡ true → served l ps ≡ frames_out l.receiver (as_media_all ps)
+abbrev FromFixed : (key : List ℕ) → List (List ℕ) → Type 0
+FromFixed key ps = (r : Receiver) → served (fixed_on key r) ps ≡ frames_out r (as_media_all ps)
 
-fixed-next : (ps : List (List ℕ)) → FromFixed ps → (l : Listener) → l.fixed ≡ true → (o : Outcome Receiver)
-    → written o ++ served (after l o) ps ≡ written o ++ frames_out (next_of o l.receiver) (as_media_all ps)
-fixed-next ps rest l f (refused n) = rest l f
-fixed-next ps rest l f (done q i c) =
-    ap (λ (t : List ℕ). written (done q i c) ++ t) (rest (record { key = l.key; fixed = true; receiver = c }) refl)
+fixed-next : (key : List ℕ) (ps : List (List ℕ)) → FromFixed key ps → (r : Receiver) (o : Outcome Receiver)
+    → written o ++ served (after (fixed_on key r) o) ps ≡ written o ++ frames_out (next_of o r) (as_media_all ps)
+fixed-next key ps rest r (refused n) = rest r
+fixed-next key ps rest r (done q i c) = ap (λ (t : List ℕ). written (done q i c) ++ t) (rest c)
 
-pub fixed-served : (ps : List (List ℕ)) → FromFixed ps
-fixed-served [] l f = refl
-fixed-served (p ∷ ps) l f =
-    ap (λ (o : Outcome Receiver). written o ++ served (after l o) ps) (fixed-call l p f)
-    ∙ fixed-next ps (fixed-served ps) l f (receiving l.receiver (as_media p))
+pub fixed-served : (key : List ℕ) (ps : List (List ℕ)) → FromFixed key ps
+fixed-served key [] r = refl
+fixed-served key (p ∷ ps) r =
+    ap (λ (o : Outcome Receiver). written o ++ served (after (fixed_on key r) o) ps) (fixed-call key r p)
+    ∙ fixed-next key ps (fixed-served key ps) r (receiving r (as_media p))
 
 -- ---- until then
 module _ (key p : List ℕ) (ps : List (List ℕ)) where
@@ -77,7 +79,7 @@ module _ (key p : List ℕ) (ps : List (List ℕ)) where
         fixes = (refl, i, (length q, ap answer_of e));
         writes =
             by_first (done q i c) e
-            ∙ ap (λ (t : List ℕ). written (done q i c) ++ t) (fixed-served ps (after (start key) (done q i c)) refl)
+            ∙ ap (λ (t : List ℕ). written (done q i c) ++ t) (fixed-served key ps c)
             ∙ ap (λ (x : Outcome Receiver). written x ++ frames_out (next_of x r) (as_media_all ps)) (sym e);
       }
 
@@ -106,7 +108,7 @@ module _ (key : List ℕ) (ssrc : ℕ) where
       → written o ++ served (after (start key) o) ps ≡ written o ++ frames_out (next_of o (fresh key ssrc)) (as_media_all ps)
   own-next ps rest (refused n) = rest
   own-next ps rest (done q i c) =
-      ap (λ (t : List ℕ). written (done q i c) ++ t) (fixed-served ps (after (start key) (done q i c)) refl)
+      ap (λ (t : List ℕ). written (done q i c) ++ t) (fixed-served key ps c)
 
   pub own-served : (ps : List (List ℕ)) → AllOf ssrc ps → served (start key) ps ≡ frames_out (fresh key ssrc) (as_media_all ps)
   own-served [] h = refl

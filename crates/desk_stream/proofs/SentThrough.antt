@@ -1,4 +1,5 @@
 -- A sender's run through the desk: its media packets, framed and delivered in order, come out as what was sent. Assumes nothing.
+use Rattle.std.specs.Prelude.{Option, None, Some}
 use Prim.Native.Nat.{ℕ, ◌≤◌}
 use mathlib.Core.Bool.{Bool, true, false}
 use mathlib.Core.List.{List, [], ◌∷◌, ◌++◌}
@@ -8,13 +9,10 @@ use lib.ListN.{length}
 use Rattle.octets.specs.BigEndian.{Bytes}
 use Rattle.octets.proofs.BufferLaws.{take-over}
 use Rattle.replay.specs.Accepted.{mem, raise, highest_of, AtMost}
-use Rattle.replay.specs.declared.index.Highest.{Highest}
-use Rattle.replay.specs.declared.index.Highest.TheVariants.{Absent, At}
 use Rattle.replay.proofs.AcceptedLaws.{highest-covers}
 use Rattle.session.specs.SetUps.{SetUp}
 use Rattle.srtp.specs.Contexts.{set_up_sender, set_up_receiver}
-use Rattle.srtp.specs.Outcomes.{Outcome, refused, done, answer_of, next_of}
-use Rattle.srtp.specs.declared.LastNumber.TheVariants.{Unknown}
+use Rattle.srtp.specs.Outcomes.{Outcome, Answer, refused, done, answer_of, next_of, shown}
 use Rattle.srtp.specs.declared.Receiver.{Receiver}
 use Rattle.srtp.specs.declared.Sender.{Sender}
 use Rattle.demands.specs.Runs.{Kind, media, control, Call, sending, receiving, after, BytesIn, accepted_by, accepted, sent}
@@ -31,31 +29,30 @@ use Rattle.desk_stream.proofs.RunLaws.{after_last}
 use Rattle.desk_stream.proofs.SentLaws.{sound-own, sound-read, Reached, reached-next, sent-made, sent-sound}
 
 -- ---- an index that is a step ahead of those accepted is new, and within reach
-step-new : (is : List ℕ) (i : ℕ) → IsStep (highest_of Absent is) i → mem i is ≡ false
+step-new : (is : List ℕ) (i : ℕ) → IsStep (highest_of None is) i → mem i is ≡ false
 step-new is i s = go (mem i is) refl
   where
-    above : (h : Highest) → IsStep h i → AtMost i h → ⊥
-    above Absent s a = a
-    above (At h) s a = omega (arith, s.0)
+    above : (h : Option ℕ) → IsStep h i → AtMost i h → ⊥
+    above None s a = a
+    above (Some h) s a = omega (arith, s.0)
 
     go : (b : Bool) → mem i is ≡ b → b ≡ false
-    go true m = absurd (above (highest_of Absent is) s (highest-covers Absent is i m))
+    go true m = absurd (above (highest_of None is) s (highest-covers None is i m))
     go false m = refl
 
-step-reaches : (h : Highest) (i : ℕ) → IsStep h i → Reaches false 0 h i
-step-reaches Absent i s = omega arith
-step-reaches (At h) i s = (omega (arith, s.0), omega (arith, s.1))
+step-reaches : (h : Option ℕ) (i : ℕ) → IsStep h i → Reaches false 0 h i
+step-reaches None i s = omega arith
+step-reaches (Some h) i s = (omega (arith, s.0), omega (arith, s.1))
 
-highest-last : (h : Highest) (is : List ℕ) (i : ℕ) → highest_of h (is ++ (i ∷ [])) ≡ raise (highest_of h is) i
+highest-last : (h : Option ℕ) (is : List ℕ) (i : ℕ) → highest_of h (is ++ (i ∷ [])) ≡ raise (highest_of h is) i
 highest-last h [] i = refl
 highest-last h (j ∷ is) i = highest-last (raise h j) is i
 
 -- ---- what finishes p at i
 pub finished_as : (o : Outcome Receiver) (d p : List ℕ) (i : ℕ) → Finishes o d p i → (r : Receiver) × (o ≡ done p i r)
-finished_as (refused n) d p i f = let e = f.answer in let z : ◌≡◌ {A = ℕ} 0 1 = cc in absurd (omega arith)
+finished_as (refused n) d p i f = cc (f.answer)
 finished_as (done q j r) d p i f =
-    let e = f.answer in
-    let x : j ≡ i = cc in
+    let x : j ≡ i = ap (λ (a : Answer). (shown a).index) f.answer in
     let y : q ≡ p = sym (take-over q d) ∙ f.out_is in
     (r, rw (x, y))
 
@@ -64,7 +61,7 @@ module _ (key : List ℕ) (ssrc : ℕ) where
   u = set_up_under key ssrc
 
   abbrev r₀ : Receiver
-  r₀ = (set_up_receiver u 0 Unknown).context
+  r₀ = (set_up_receiver u 0 None).context
 
   -- the receiver after some calls, and the indices that they accepted
   abbrev reader : List Call → Receiver
@@ -74,29 +71,29 @@ module _ (key : List ℕ) (ssrc : ℕ) where
   indices got = accepted media r₀ got
 
   -- what is made, and a step ahead, is opened as what was sent
-  opens : (got : List Call) (p : List ℕ) (i : ℕ) (b : List ℕ) → Made media u p i b → IsStep (highest_of Absent (indices got)) i →
+  opens : (got : List Call) (p : List ℕ) (i : ℕ) (b : List ℕ) → Made media u p i b → IsStep (highest_of None (indices got)) i →
       (r : Receiver) × (receiving (reader got) (as_media b) ≡ done p i r)
   opens got p i b m s =
       let n : length p ≤ length room = omega (arith, m.plain.not_long, room-length) in
       finished_as (receiving (reader got) (as_media b)) room p i
-      ((receiver-demand3 u 0 Unknown (omega arith) tt (got ++ (as_media b ∷ []))).accepts got (as_media b) [] refl p i m
-      (step-new (indices got) i s) (step-reaches (highest_of Absent (indices got)) i s) n)
+      ((receiver-demand3 u 0 None (omega arith) tt (got ++ (as_media b ∷ []))).accepts got (as_media b) [] refl p i m
+      (step-new (indices got) i s) (step-reaches (highest_of None (indices got)) i s) n)
 
   one-accepted : (got : List Call) (b p : List ℕ) (i : ℕ) (r : Receiver) → receiving (reader got) (as_media b) ≡ done p i r →
-      highest_of Absent (indices (got ++ (as_media b ∷ []))) ≡ raise (highest_of Absent (indices got)) i
+      highest_of None (indices (got ++ (as_media b ∷ []))) ≡ raise (highest_of None (indices got)) i
   one-accepted got b p i r e =
-      ap (highest_of Absent) (accepted-append media r₀ got (as_media b ∷ [])
+      ap (highest_of None) (accepted-append media r₀ got (as_media b ∷ [])
       ∙ ap (λ (o : Outcome Receiver). indices got ++ (accepted_by media media (answer_of o) ++ [])) e)
-      ∙ highest-last Absent (indices got) i
+      ∙ highest-last None (indices got) i
 
   -- ---- the calls of a sender from s on, where the receiver has got the packets before them
   abbrev Through : Sender → List Call → Type 0
-  Through s cs = (got : List Call) → EachStep (highest_of Absent (indices got)) (sent media s cs) →
+  Through s cs = (got : List Call) → EachStep (highest_of None (indices got)) (sent media s cs) →
       frames_out (reader got) (as_media_all (protected_in s cs)) ≡ frames (plain_in s cs)
 
   one-through : (s : Sender) → Reached key ssrc s → (c : Call) → Bytes c.packet → (cs got : List Call) →
       (k : Kind) → c.kind ≡ k → (o : Outcome Sender) → sending s c ≡ o → Through (next_of o s) cs →
-      EachStep (highest_of Absent (indices got)) (accepted_by media k (answer_of o) ++ sent media (next_of o s) cs) →
+      EachStep (highest_of None (indices got)) (accepted_by media k (answer_of o) ++ sent media (next_of o s) cs) →
       frames_out (reader got) (as_media_all (if_media k o (comes_out o c.buffer) ++ protected_in (next_of o s) cs))
       ≡ frames (if_media k o c.packet ++ plain_in (next_of o s) cs)
   one-through s g c y cs got media k (refused n) e rest f = rest got f
@@ -106,8 +103,8 @@ module _ (key : List ℕ) (ssrc : ℕ) where
       let o = opens got p i b (sent-made key ssrc s g c y k x i s' e) f.0 in
       let more : List Call = got ++ (as_media b ∷ []) in
       let cs' : List Call = as_media_all (protected_in s' cs) in
-      let f' : EachStep (highest_of Absent (indices more)) (sent media s' cs) =
-      subst (λ (h : Highest). EachStep h (sent media s' cs)) (sym (one-accepted got b p i o.0 o.1)) f.1 in
+      let f' : EachStep (highest_of None (indices more)) (sent media s' cs) =
+      subst (λ (h : Option ℕ). EachStep h (sent media s' cs)) (sym (one-accepted got b p i o.0 o.1)) f.1 in
       ap (λ (x : Outcome Receiver). written x ++ frames_out (next_of (receiving (reader got) (as_media b)) (reader got)) cs') o.1
       ∙ ap (λ (r : Receiver). framed p ++ frames_out r cs') (sym (after_last receiving r₀ got (as_media b)))
       ∙ ap (λ (t : List ℕ). framed p ++ t) (rest more f')

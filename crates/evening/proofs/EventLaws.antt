@@ -5,9 +5,8 @@ use mathlib.Core.Path.{◌≡◌, refl, sym, ap, ◌∙◌}
 use mathlib.Core.List.{List, [], ◌∷◌, ◌++◌, append_assoc}
 use Rattle.octets.specs.BigEndian.{Bytes}
 use Rattle.session.specs.SetUps.{SetUp}
-use Rattle.srtp.specs.declared.Answer.{Answer}
 use Rattle.srtp.specs.declared.Receiver.{Receiver}
-use Rattle.srtp.specs.Outcomes.{answer_of, next_of}
+use Rattle.srtp.specs.Outcomes.{Answer, answer_of, next_of}
 use Rattle.demands.specs.Runs.{Kind, media, control, Call, receiving, after, accepted_by, accepted, BytesIn}
 use Rattle.evening.specs.Evening.{Event, genuine, strange, other, call_of, calls_of, delivered}
 

@@ -7,9 +7,8 @@ use mathlib.Core.Bool.{Bool, true, false, cond, ◌||◌, or_assoc, or_comm, tru
 use mathlib.Core.List.{List, [], ◌∷◌, ◌++◌, append_assoc, append-nil}
 use lib.Dec.{eqb}
 use borrow.Author.Tests.{eqb-true}
+use Rattle.std.specs.Prelude.{Option, None, Some}
 use Rattle.replay.specs.Accepted.{mem, raise, highest_of, AtMost}
-use Rattle.replay.specs.declared.index.Highest.{Highest}
-use Rattle.replay.specs.declared.index.Highest.TheVariants.{Absent, At}
 use Rattle.evening.specs.Evening.{firsts_behind, firsts}
 
 or_swap : (a b c : Bool) → (a || (b || c)) ≡ (b || a || c)
@@ -54,23 +53,23 @@ firsts-mem xs i = or_comm false (mem i (firsts xs)) ∙ behind-mem [] xs i ∙ o
 
 -- ---- the same highest
 -- h is at least each of these
-abbrev pub Below : List ℕ → Highest → Type 0
+abbrev pub Below : List ℕ → Option ℕ → Type 0
 Below seen h = (m : ℕ) → mem m seen ≡ true → AtMost m h
 
-raise-same : (h : Highest) (i : ℕ) → AtMost i h → raise h i ≡ h
-raise-same Absent i l = absurd l
-raise-same (At k) i l = ap At (omega arith)
+raise-same : (h : Option ℕ) (i : ℕ) → AtMost i h → raise h i ≡ h
+raise-same None i l = absurd l
+raise-same (Some k) i l = ap Some (omega arith)
 
-pub below_raised : (seen : List ℕ) (h : Highest) (i : ℕ) → Below seen h → Below (i ∷ seen) (raise h i)
+pub below_raised : (seen : List ℕ) (h : Option ℕ) (i : ℕ) → Below seen h → Below (i ∷ seen) (raise h i)
 below_raised seen h i l m = go h (eqb m i) refl (l m)
   where
-    go : (h : Highest) (b : Bool) → eqb m i ≡ b → (mem m seen ≡ true → AtMost m h) → (b || mem m seen) ≡ true → AtMost m (raise h i)
-    go Absent true e f t = omega (arith, eqb-true m i e)
-    go (At k) true e f t = omega (arith, eqb-true m i e)
-    go Absent false e f t = absurd (f t)
-    go (At k) false e f t = omega (arith, f t)
+    go : (h : Option ℕ) (b : Bool) → eqb m i ≡ b → (mem m seen ≡ true → AtMost m h) → (b || mem m seen) ≡ true → AtMost m (raise h i)
+    go None true e f t = omega (arith, eqb-true m i e)
+    go (Some k) true e f t = omega (arith, eqb-true m i e)
+    go None false e f t = absurd (f t)
+    go (Some k) false e f t = omega (arith, f t)
 
-behind-highest : (seen xs : List ℕ) (h : Highest) → Below seen h → highest_of h (firsts_behind seen xs) ≡ highest_of h xs
+behind-highest : (seen xs : List ℕ) (h : Option ℕ) → Below seen h → highest_of h (firsts_behind seen xs) ≡ highest_of h xs
 behind-highest seen [] h l = refl
 behind-highest seen (x ∷ xs) h l = go (mem x seen) refl (behind-highest (x ∷ seen) xs (raise h x) (below_raised seen h x l))
   where
@@ -79,8 +78,8 @@ behind-highest seen (x ∷ xs) h l = go (mem x seen) refl (behind-highest (x ∷
 
     go : (b : Bool) → mem x seen ≡ b → highest_of (raise h x) rest ≡ highest_of (raise h x) xs →
         highest_of h (cond b [] (x ∷ []) ++ rest) ≡ highest_of (raise h x) xs
-    go true m e = sym (ap (λ (k : Highest). highest_of k rest) (raise-same h x (l x m))) ∙ e
+    go true m e = sym (ap (λ (k : Option ℕ). highest_of k rest) (raise-same h x (l x m))) ∙ e
     go false m e = e
 
-pub firsts-highest : (xs : List ℕ) → highest_of Absent (firsts xs) ≡ highest_of Absent xs
-firsts-highest xs = behind-highest [] xs Absent (λ m e. absurd (true≢false (sym e)))
+pub firsts-highest : (xs : List ℕ) → highest_of None (firsts xs) ≡ highest_of None xs
+firsts-highest xs = behind-highest [] xs None (λ m e. absurd (true≢false (sym e)))

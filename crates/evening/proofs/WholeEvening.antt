@@ -6,18 +6,14 @@ use mathlib.Core.Logic.{inl, inr}
 use mathlib.Core.Bool.{Bool, true, false, cond}
 use mathlib.Core.List.{List, [], ◌∷◌, ◌++◌, append_assoc, append-nil}
 use lib.ListN.{length}
+use Rattle.std.specs.Prelude.{Option, None, Some, Err}
 use Rattle.replay.specs.Accepted.{mem, highest_of}
-use Rattle.replay.specs.declared.index.Highest.{Highest}
-use Rattle.replay.specs.declared.index.Highest.TheVariants.{Absent, At}
 use Rattle.transforms.specs.Rcc.{carries_counter}
 use Rattle.transforms.specs.declared.Integrity.TheVariants.{HmacSha1}
 use Rattle.session.specs.SetUps.{SetUp}
-use Rattle.srtp.specs.declared.Answer.{Answer}
-use Rattle.srtp.specs.declared.Answer.TheVariants.{Refused}
 use Rattle.srtp.specs.declared.Refusal.TheVariants.{Repeat}
-use Rattle.srtp.specs.declared.LastNumber.TheVariants.{Unknown}
 use Rattle.srtp.specs.Contexts.{set_up_receiver}
-use Rattle.srtp.specs.Outcomes.{answer_of}
+use Rattle.srtp.specs.Outcomes.{Answer, answer_of}
 use Rattle.demands.specs.Runs.{Kind, media, Call, accepted_by, BytesIn}
 use Rattle.demands.specs.Words.{Made, Finishes, Reaches, WithinReach, has_whole_index, accepted_as}
 use Rattle.demands.proofs.Demand2.{sender-demand2}
@@ -27,18 +23,18 @@ use Rattle.evening.proofs.FirstLaws.{firsts-last, firsts-mem, firsts-highest}
 use Rattle.evening.proofs.EventLaws.{bytes-in, accepted-append, other_none, calls-append, delivered-append}
 
 -- what keeps up with the highest index delivered is within reach of it
-reaches : (whole : Bool) (rollover : ℕ) (h : Highest) (i : ℕ) → KeepsUp whole rollover h i → Reaches whole rollover h i
-reaches false rollover Absent i k = omega arith
-reaches true rollover Absent i k = tt
-reaches false rollover (At h) i (inl (a, b)) = (omega arith, omega arith)
-reaches false rollover (At h) i (inr (a, b)) = (omega arith, omega arith)
-reaches true rollover (At h) i (inl (a, b)) = omega arith
-reaches true rollover (At h) i (inr a) = omega arith
+reaches : (whole : Bool) (rollover : ℕ) (h : Option ℕ) (i : ℕ) → KeepsUp whole rollover h i → Reaches whole rollover h i
+reaches false rollover None i k = omega arith
+reaches true rollover None i k = tt
+reaches false rollover (Some h) i (inl (a, b)) = (omega arith, omega arith)
+reaches false rollover (Some h) i (inr (a, b)) = (omega arith, omega arith)
+reaches true rollover (Some h) i (inl (a, b)) = omega arith
+reaches true rollover (Some h) i (inr a) = omega arith
 
 module _ (u : SetUp) (rollover : ℕ) (run : List Call) (evening : List (Event u run)) (w : rollover < 2 ^ 32)
     (bytes : BytesIn run) (s : Supposed (has_whole_index media u) u rollover run evening) where
   abbrev indices : List (Event u run) → List ℕ
-  indices before = accepted_as u rollover Unknown media (calls_of before)
+  indices before = accepted_as u rollover None media (calls_of before)
 
   -- so far the indices accepted are those delivered, each where it came first
   abbrev Follows : List (Event u run) → Type 0
@@ -54,7 +50,7 @@ module _ (u : SetUp) (rollover : ℕ) (run : List Call) (evening : List (Event u
   seen before i f = ap (λ (is : List ℕ). mem i is) f ∙ firsts-mem (delivered before) i
 
   within : (before : List (Event u run)) (g : Genuine u run) (d : List ℕ) → Comes evening before (genuine g d) → Follows before →
-      WithinReach u rollover Unknown media (calls_of before) g.index
+      WithinReach u rollover None media (calls_of before) g.index
   within before g d c f =
       rw (f, firsts-highest (delivered before)) (reaches (has_whole_index media u g.index) rollover _ g.index (s.keeps_up before g d c))
 
@@ -67,21 +63,21 @@ module _ (u : SetUp) (rollover : ℕ) (run : List Call) (evening : List (Event u
       mem g.index (delivered before) ≡ false → Finishes (outcome_of rollover before (genuine g d)) d (packet_of g) g.index
   first before g d c f new =
       let e : Event u run = genuine g d in
-      (receiver-demand3 u rollover Unknown w tt (calls_of before ++ (call_of e ∷ []))).accepts (calls_of before) (call_of e) [] refl
+      (receiver-demand3 u rollover None w tt (calls_of before ++ (call_of e ∷ []))).accepts (calls_of before) (call_of e) [] refl
       (packet_of g) g.index (made g) (seen before g.index f ∙ new) (within before g d c f) (has_room before g d c)
 
   -- with a call more
   last : (before : List (Event u run)) (e : Event u run) →
       indices (before ++ (e ∷ [])) ≡ indices before ++ (accepted_by media (call_of e).kind (answer_of (outcome_of rollover before e)))
   last before e =
-      ap (accepted_as u rollover Unknown media) (calls-append before (e ∷ []))
-      ∙ accepted-append media (set_up_receiver u rollover Unknown).context (calls_of before) (call_of e ∷ [])
+      ap (accepted_as u rollover None media) (calls-append before (e ∷ []))
+      ∙ accepted-append media (set_up_receiver u rollover None).context (calls_of before) (call_of e ∷ [])
       ∙ ap (λ (is : List ℕ). indices before ++ is) (append-nil _)
 
   again : (before : List (Event u run)) (g : Genuine u run) (d : List ℕ) → Comes evening before (genuine g d) → Follows before →
-      mem g.index (delivered before) ≡ true → answer_of (outcome_of rollover before (genuine g d)) ≡ Refused Repeat
+      mem g.index (delivered before) ≡ true → answer_of (outcome_of rollover before (genuine g d)) ≡ Err Repeat
   again before g d c f old =
-      repeat-refused u rollover Unknown w tt (calls_of before) (call_of (genuine g d)) (packet_of g) g.index (made g)
+      repeat-refused u rollover None w tt (calls_of before) (call_of (genuine g d)) (packet_of g) g.index (made g)
       (seen before g.index f ∙ old) (within before g d c f) (has_room before g d c)
 
   -- ---- one call after the other
@@ -137,18 +133,18 @@ whole-evening u rollover run evening w bytes s = shown u rollover run evening w 
 
 -- ---- the paragraph without its last sentence
 -- what keeps up without its whole index keeps up with it
-keeps-up-whole : (whole : Bool) (rollover : ℕ) (h : Highest) (i : ℕ) → KeepsUp false rollover h i → KeepsUp whole rollover h i
+keeps-up-whole : (whole : Bool) (rollover : ℕ) (h : Option ℕ) (i : ℕ) → KeepsUp false rollover h i → KeepsUp whole rollover h i
 keeps-up-whole false rollover h i k = k
-keeps-up-whole true rollover Absent i k = tt
-keeps-up-whole true rollover (At h) i (inl b) = inl b
-keeps-up-whole true rollover (At h) i (inr a) = inr a.0
+keeps-up-whole true rollover None i k = tt
+keeps-up-whole true rollover (Some h) i (inl b) = inl b
+keeps-up-whole true rollover (Some h) i (inr a) = inr a.0
 
 pub plain-evening : (u : SetUp) (rollover : ℕ) (run : List Call) (evening : List (Event u run)) → rollover < 2 ^ 32 → BytesIn run →
     PlainEvening u rollover run evening
 plain-evening u rollover run evening w bytes s =
     whole-evening u rollover run evening w bytes (record {
       keeps_up = λ before g d c.
-          keeps-up-whole (has_whole_index media u g.index) rollover (highest_of Absent (delivered before)) g.index (s.keeps_up before g d c);
+          keeps-up-whole (has_whole_index media u g.index) rollover (highest_of None (delivered before)) g.index (s.keeps_up before g d c);
       room = s.room;
       strange_refused = s.strange_refused;
     })

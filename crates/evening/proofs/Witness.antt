@@ -7,13 +7,13 @@ use mathlib.Core.Logic.{inl, inr}
 use mathlib.Core.Bool.{Bool, true, false}
 use mathlib.Core.List.{List, [], ◌∷◌, ◌++◌, append_assoc, append-nil, nil≢cons, head-eq_of_cons-eq, tail-eq_of_cons-eq}
 use lib.ListN.{length, take, replicate}
+use Rattle.std.specs.Prelude.{None}
 use Rattle.octets.specs.BigEndian.{Bytes, to_bytes}
 use Rattle.octets.proofs.BigEndianLaws.{bytes-to_bytes}
 use Rattle.rtp.specs.Rtp.{header_length, is_rtp, sequence_number, rtp_ssrc}
 use Rattle.rtp.specs.Rtcp.{is_rtcp, rtcp_ssrc}
 use Rattle.rtp.specs.Protected.{authenticated_portion}
 use Rattle.replay.specs.Accepted.{highest_of}
-use Rattle.replay.specs.declared.index.Highest.TheVariants.{Absent}
 use Rattle.transforms.specs.declared.Cipher.TheVariants.{Aes}
 use Rattle.transforms.specs.declared.Integrity.{Integrity}
 use Rattle.transforms.specs.declared.Integrity.TheVariants.{HmacSha1, Rccm2}
@@ -21,7 +21,6 @@ use Rattle.session.specs.declared.Session.{Session}
 use Rattle.session.specs.Packets.{tag_length, mki_bytes, srtp}
 use Rattle.session.specs.SetUps.{SetUp, listed, session_of}
 use Rattle.srtp.specs.declared.Receiver.{Receiver}
-use Rattle.srtp.specs.declared.LastNumber.TheVariants.{Unknown}
 use Rattle.srtp.specs.declared.Refusal.TheVariants.{Setup, Shape}
 use Rattle.srtp.specs.Contexts.{sender_listed, set_up_sender, receiver_listed}
 use Rattle.srtp.specs.Calls.{media_portion, send_media, send_control, receive_media}
@@ -49,7 +48,7 @@ module _ {u : SetUp} {run : List Call} where
 
   abbrev pub SupposedOf : (whole : ℕ → Bool) → (rollover : ℕ) → (before : List (Event u run)) → Event u run → Type 0
   SupposedOf whole rollover before (genuine g d) =
-      KeepsUp (whole g.index) rollover (highest_of Absent (delivered before)) g.index × (length (packet_of g) ≤ length d)
+      KeepsUp (whole g.index) rollover (highest_of None (delivered before)) g.index × (length (packet_of g) ≤ length d)
   SupposedOf whole rollover before (strange b d) = IsRefused (outcome_of rollover before (strange b d))
   SupposedOf whole rollover before (other c n) = Unit {0}
 
@@ -147,7 +146,7 @@ plain-supposed =
       ),
     )
 
-plain-indices : accepted_as plain 0 Unknown media (calls_of plain_evening) ≡ 65535 ∷ 65536 ∷ []
+plain-indices : accepted_as plain 0 None media (calls_of plain_evening) ≡ 65535 ∷ 65536 ∷ []
 unfolding p₁ p₂
 plain-indices =
     (plain-evening plain 0 plain_run plain_evening (omega arith) (numbered-bytes 65535, (numbered-bytes 7, (numbered-bytes 0, tt))) plain-supposed
@@ -178,7 +177,7 @@ carrying-supposed =
     supposed (has_whole_index media carrying) 7 carrying_evening
     ((tt, omega arith), (empty-refused _ 0, ((inr (omega arith), omega arith), ((inl (omega arith, omega arith), omega arith), tt))))
 
-carrying-indices : accepted_as carrying 7 Unknown media (calls_of carrying_evening) ≡ 0 ∷ 60000 ∷ []
+carrying-indices : accepted_as carrying 7 None media (calls_of carrying_evening) ≡ 0 ∷ 60000 ∷ []
 unfolding q₁ q₃
 carrying-indices =
     (whole-evening carrying 7 carrying_run carrying_evening (omega arith) (numbered-bytes 0, (numbered-bytes 30000, (numbered-bytes 60000, tt)))

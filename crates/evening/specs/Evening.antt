@@ -1,14 +1,10 @@
 -- The whole evening (02, No. 14): a sender's run, what a receiver under the same set-up gets of it in the course of an evening, and what it
 -- accepts. Proved of every set-up, with and without RFC 4771's transform, of every run and of every evening (`whole-evening`,
 -- `plain-evening` in proofs/WholeEvening; `nothing-lost` in proofs/InOrder). Assumes nothing.
-use Rattle.std.specs.Prelude.{ℕ, ◌+◌, ◌≤◌, ◌<◌, ◌≡◌, ◌⊎◌, Bool, true, false, cond, List, [], ◌∷◌, ◌++◌, length}
+use Rattle.std.specs.Prelude.{ℕ, ◌+◌, ◌≤◌, ◌<◌, ◌≡◌, ◌⊎◌, Bool, true, false, cond, List, [], ◌∷◌, ◌++◌, length, Option, None, Some, Err}
 use Rattle.replay.specs.Accepted.{mem, highest_of}
 use Rattle.replay.specs.Window.{window_length}
-use Rattle.replay.specs.declared.index.Highest.{Highest}
-use Rattle.replay.specs.declared.index.Highest.TheVariants.{Absent, At}
 use Rattle.session.specs.SetUps.{SetUp}
-use Rattle.srtp.specs.declared.Answer.TheVariants.{Refused}
-use Rattle.srtp.specs.declared.LastNumber.TheVariants.{Unknown}
 use Rattle.srtp.specs.declared.Refusal.{Refusal}
 use Rattle.srtp.specs.declared.Refusal.TheVariants.{Repeat}
 use Rattle.srtp.specs.declared.Receiver.{Receiver}
@@ -66,7 +62,7 @@ Comes {u} {run} evening before e = (after : List (Event u run)) × (evening ≡ 
 
 -- what the receiver does with it: it was set up with this rollover counter and no sequence number
 abbrev pub outcome_of : {u : SetUp} {run : List Call} → (rollover : ℕ) → (before : List (Event u run)) → Event u run → Outcome Receiver
-outcome_of {u} rollover before e = receiver_outcome u rollover Unknown (calls_of before) (call_of e)
+outcome_of {u} rollover before e = receiver_outcome u rollover None (calls_of before) (call_of e)
 
 -- ---- what is supposed
 -- behind the highest index h by less than the window (a repeat of h among them)
@@ -80,17 +76,17 @@ Ahead true h i = h < i
 
 -- behind the highest index delivered so far, or ahead of it; the first carries the rollover counter that set-up gave. One that has its
 -- whole index in it may be the first with any
-abbrev pub KeepsUp : (whole : Bool) → (rollover : ℕ) → (highest : Highest) → (index : ℕ) → Type 0
-KeepsUp whole rollover (At h) i = Behind h i ⊎ Ahead whole h i
-KeepsUp false rollover Absent i = Carries i rollover
-KeepsUp true rollover Absent i = Unit {0}
+abbrev pub KeepsUp : (whole : Bool) → (rollover : ℕ) → (highest : Option ℕ) → (index : ℕ) → Type 0
+KeepsUp whole rollover (Some h) i = Behind h i ⊎ Ahead whole h i
+KeepsUp false rollover None i = Carries i rollover
+KeepsUp true rollover None i = Unit {0}
 
 -- each genuine delivery keeps up with the highest genuine index delivered so far; `whole` says of an index whether its packet has all of it
 -- in it
 abbrev pub EachKeepsUp : {u : SetUp} {run : List Call} → (whole : ℕ → Bool) → (rollover : ℕ) → (evening : List (Event u run)) → Type 0
 EachKeepsUp {u} {run} whole rollover evening =
     (before : List (Event u run)) (g : Genuine u run) (d : List ℕ) → Comes evening before (genuine g d) →
-    KeepsUp (whole g.index) rollover (highest_of Absent (delivered before)) g.index
+    KeepsUp (whole g.index) rollover (highest_of None (delivered before)) g.index
 
 -- the buffer always has room
 abbrev pub HasRoom : {u : SetUp} {run : List Call} → (evening : List (Event u run)) → Type 0
@@ -99,7 +95,7 @@ HasRoom {u} {run} evening =
 
 -- every strange string received as media is refused
 abbrev pub IsRefused : {S : Type 0} → Outcome S → Type 0
-IsRefused o = (n : Refusal) × (answer_of o ≡ Refused n)
+IsRefused o = (n : Refusal) × (answer_of o ≡ Err n)
 
 abbrev pub StrangeRefused : {u : SetUp} {run : List Call} → (rollover : ℕ) → (evening : List (Event u run)) → Type 0
 StrangeRefused {u} {run} rollover evening =
@@ -125,10 +121,10 @@ pub record Shown (u : SetUp) (rollover : ℕ) (run : List Call) (evening : List 
       mem g.index (delivered before) ≡ false → Finishes (outcome_of rollover before (genuine g d)) d (packet_of g) g.index
   -- a later one is refused, as REPEAT
   pub again : (before : List (Event u run)) (g : Genuine u run) (d : List ℕ) → Comes evening before (genuine g d) →
-      mem g.index (delivered before) ≡ true → answer_of (outcome_of rollover before (genuine g d)) ≡ Refused Repeat
+      mem g.index (delivered before) ≡ true → answer_of (outcome_of rollover before (genuine g d)) ≡ Err Repeat
   -- and nothing else is accepted as media
-  pub indices : accepted_as u rollover Unknown media (calls_of evening) ≡ firsts (delivered evening)
-  pub precisely : (i : ℕ) → mem i (accepted_as u rollover Unknown media (calls_of evening)) ≡ mem i (delivered evening)
+  pub indices : accepted_as u rollover None media (calls_of evening) ≡ firsts (delivered evening)
+  pub precisely : (i : ℕ) → mem i (accepted_as u rollover None media (calls_of evening)) ≡ mem i (delivered evening)
 
 -- for both integrity transforms: a media packet has its whole index in it where its tag carries the rollover counter
 abbrev pub WholeEvening : (u : SetUp) (rollover : ℕ) (run : List Call) → List (Event u run) → Type 0

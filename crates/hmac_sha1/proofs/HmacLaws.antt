@@ -6,7 +6,6 @@ use Rattle.octets.specs.BigEndian.{Bytes}
 use Rattle.octets.specs.Xor.{xors}
 use Rattle.octets.specs.Buffer.{over}
 use Rattle.octets.proofs.XorLaws.{length-xors}
-use Rattle.hmac_sha1.specs.declared.State.{State}
 use Rattle.hmac_sha1.specs.declared.HmacKey.{HmacKey}
 use Rattle.hmac_sha1.specs.Sha1.{initial, compress, sha1}
 use Rattle.hmac_sha1.specs.Parts.{zero_filled, sha1_after}
@@ -52,22 +51,14 @@ length-block_key key = length-zero_filled (cond (leb (length key) 64) key (sha1 
 length-pad : (key : List ℕ) (v : ℕ) → length (xors (block_key key) (replicate 64 v)) ≡ 64
 length-pad key v = length-xors (block_key key) (replicate 64 v) ∙ rw (length-block_key key)
 
--- from the two pads of a key
-pub key-made : (k i o : List ℕ) (s t : State) → i ≡ xors k ipad → o ≡ xors k opad → s ≡ compress initial i → t ≡ compress initial o
-    → record { inner = s; outer = t } ≡ key_state k
-unfolding key_state
-key-made k i o s t ei eo es et = rw (es, et, ei, eo)
-
--- as the code has it, the message's second part being empty
-pub key-short : (key : List ℕ) → length key ≤ 64 → key_state (zero_filled (key ++ [])) ≡ hmac_key key
+-- a short key is filled up, and a long one is hashed first: as the code has it, a message whose second part is empty
+pub key-short : (key : List ℕ) → length key ≤ 64 → key_state (zero_filled key) ≡ hmac_key key
 unfolding hmac_key block_key
-key-short key l = rw (append-nil, le-leb (length key) 64 l)
+key-short key l = rw (le-leb (length key) 64 l)
 
-pub key-long : (key d : List ℕ) → 64 < length key → d ≡ sha1 (key ++ []) → key_state (zero_filled (d ++ [])) ≡ hmac_key key
+pub key-long : (key d : List ℕ) → 64 < length key → d ≡ sha1 (key ++ []) → key_state (zero_filled d) ≡ hmac_key key
 unfolding hmac_key block_key
-key-long key d l e =
-    let f : d ≡ sha1 key = e ∙ ap sha1 (append-nil key) in
-    rw (f, append-nil (sha1 key), lt-leb (length key) 64 l)
+key-long key d l e = rw (e, append-nil key, lt-leb (length key) 64 l)
 
 pub hmac_with-key : (key text : List ℕ) → hmac_with (hmac_key key) text ≡ hmac key text
 unfolding hmac_with hmac_key key_state hmac

@@ -1,25 +1,15 @@
 -- Laws of a message: blocks one after the other, the block that two parts share, the blocks that end it. Assumes nothing.
 use Rattle.std.proofs.Common.{◌≡◌, ℕ, zero, suc, ◌+◌, ◌-◌, ◌*◌, ◌/◌, ◌%◌, ◌<◌, ◌≤◌, List, [], ◌∷◌, ◌++◌, length, get_or, take, drop, set, replicate, sym, refl, ap, ◌∙◌, ap₂, append_assoc, append-nil, add-zero, add-suc, add-one, arith, length-append, length-drop, take-append-drop, drop_of_length-le, length-take-le, take_all, drop-drop, take_at, drop_at}
-use native.Mathlib.Nat.{sub-zero, zero-sub, suc-sub-suc}
 use lib.ListN.{length-replicate, replicate-append-replicate}
 use lib.Seq.{take-append-le, drop-append-le, set_at, drop-length}
+use Rattle.std.proofs.lemmas.List.{drop-replicate}
+use Rattle.std.specs.Simd.{first_chunks}
 use Rattle.octets.specs.BigEndian.{to_bytes}
 use Rattle.octets.specs.Buffer.{over, over_at}
 use Rattle.octets.proofs.BufferLaws.{over-whole, length-over_at, over_at-over, over_at-part}
 use Rattle.hmac_sha1.specs.declared.State.{State}
 use Rattle.hmac_sha1.specs.Sha1.{padding, zeros, block_at, compress, hash_value, hash_all, digest_of}
-use Rattle.hmac_sha1.specs.Parts.{words_of, zero_filled, sha1_after}
-
--- ---- a hash value in place
-
--- read
-pub words-read : (h : List ℕ) (s : State) → h ≡ words_of s → record { a = get_or h 0 0; b = get_or h 1 0; c = get_or h 2 0; d = get_or h 3 0; e = get_or h 4 0 } ≡ s
-words-read h s e =
-    ap {B = State} (λ (l : List ℕ). record { a = get_or l 0 0; b = get_or l 1 0; c = get_or l 2 0; d = get_or l 3 0; e = get_or l 4 0 }) e
-
--- and written
-pub words-written : (h : List ℕ) (s r : State) → h ≡ words_of s → set (set (set (set (set h 0 r.a) 1 r.b) 2 r.c) 3 r.d) 4 r.e ≡ words_of r
-words-written h s r e = ap (λ (l : List ℕ). set (set (set (set (set l 0 r.a) 1 r.b) 2 r.c) 3 r.d) 4 r.e) e
+use Rattle.hmac_sha1.specs.Parts.{zero_filled, sha1_after}
 
 -- ---- blocks one after the other
 
@@ -27,16 +17,18 @@ next-block : (h s : State) (p : List ℕ) (n : ℕ) → s ≡ hash_value h p n �
 unfolding hash_value
 next-block h s p n e = rw (add-one, e)
 
--- the block that a loop has in hand, as the part of p from 64 n to 64 n + 64
-pub next-part : (h s : State) (p : List ℕ) (n : ℕ) → s ≡ hash_value h p n → compress s (take (64 * n + 64 - 64 * n) (drop (64 * n) p)) ≡ hash_value h p (n + 1)
-next-part h s p n e =
-    let k : 64 * n + 64 - 64 * n ≡ 64 = omega arith in
-    rw k (next-block h s p n e)
+-- the block that a loop over the whole blocks has in hand
+block-chunk : (k n : ℕ) (p d : List ℕ) → n < k → get_or (first_chunks 64 k p) n d ≡ block_at p n
+block-chunk zero n p d l = absurd (omega arith)
+block-chunk (suc k) zero p d l = refl
+block-chunk (suc k) (suc n) p d l =
+    let e : 64 + 64 * n ≡ 64 * suc n = omega arith in
+    block-chunk k n (drop 64 p) d (omega arith) ∙ rw (drop-drop, e)
 
-pub length_part : (p : List ℕ) (n : ℕ) → 64 * n + 64 ≤ length p → length (take (64 * n + 64 - 64 * n) (drop (64 * n) p)) ≡ 64
-length_part p n l =
-    let k : 64 * n + 64 - 64 * n ≡ 64 = omega arith in
-    rw k (length-take-le 64 (drop (64 * n) p) (omega (arith, length-drop (64 * n) p)))
+pub next-chunk : (h s : State) (p d : List ℕ) (bs : List (List ℕ)) (n : ℕ) → s ≡ hash_value h p n → bs ≡ first_chunks 64 (length p / 64) p → n < length p / 64
+    → compress s (get_or bs n d) ≡ hash_value h p (n + 1)
+next-chunk h s p d bs n e f l =
+    ap (compress s) (ap (λ (l : List (List ℕ)). get_or l n d) f ∙ block-chunk (length p / 64) n p d l) ∙ next-block h s p n e
 
 -- some blocks, and then more
 hash_value-add : (h : State) (p : List ℕ) (k n : ℕ) → hash_value h p (k + n) ≡ hash_value (hash_value h p k) (drop (64 * k) p) n
@@ -89,11 +81,6 @@ pub zero_filled-full : (m : List ℕ) → length m ≡ 64 → zero_filled m ≡ 
 unfolding zero_filled
 zero_filled-full m l = rw l (append-nil m)
 
-drop-replicate : (n i v : ℕ) → drop i (replicate n v) ≡ replicate (n - i) v
-drop-replicate n zero v = ap (λ (k : ℕ). replicate k v) (sym (sub-zero n))
-drop-replicate zero (suc i) v = ap (λ (k : ℕ). replicate k v) (sym (zero-sub (suc i)))
-drop-replicate (suc n) (suc i) v = drop-replicate n i v ∙ ap (λ (k : ℕ). replicate k v) (sym (suc-sub-suc n i))
-
 -- a written over the start of d, and then b over the part behind it
 pub filled-parts : (a b d d₁ d₂ : List ℕ) → d₁ ≡ over a d → d₂ ≡ over b (take (length d₁ - length a) (drop (length a) d₁))
     → take (length a) d₁ ++ (d₂ ++ drop (length d₁ - length a) (drop (length a) d₁)) ≡ over (a ++ b) d
@@ -106,7 +93,7 @@ filled-parts a b d d₁ d₂ e₁ e₂ =
 -- m written over a block of zeros
 pub filled-zeros : (m : List ℕ) → over m (replicate 64 0) ≡ zero_filled m
 unfolding over zero_filled
-filled-zeros m = ap (λ (z : List ℕ). m ++ z) (drop-replicate 64 (length m) 0)
+filled-zeros m = ap (λ (z : List ℕ). m ++ z) (drop-replicate (length m) 64 0)
 
 -- and the first byte of the padding behind it
 pub stored-end : (m d : List ℕ) (n : ℕ) → d ≡ over m (replicate 64 0) → n ≡ length m → n < 64 → set d n 0x80 ≡ zero_filled (m ++ (0x80 ∷ []))
@@ -123,10 +110,10 @@ to_end : (m : List ℕ) (at : ℕ) → take (length m - at) (drop at m) ≡ drop
 to_end m at = take_all (length m - at) (drop at m) (omega (arith, length-drop at m))
 
 -- behind the whole blocks of a
-pub hash-rest : (h s : State) (a b q : List ℕ) → s ≡ hash_all h a
-    → hash_all s ((take (length a - 64 * (length a / 64)) (drop (64 * (length a / 64)) a) ++ b) ++ q) ≡ hash_all h ((a ++ b) ++ q)
-hash-rest h s a b q e =
-    ap₂ (λ (t : State) (d : List ℕ). hash_all t ((d ++ b) ++ q)) e (to_end a (64 * (length a / 64)))
+pub hash-rest : (h s : State) (a b q r : List ℕ) → s ≡ hash_all h a → r ≡ drop (length a / 64 * 64) a → hash_all s ((r ++ b) ++ q) ≡ hash_all h ((a ++ b) ++ q)
+hash-rest h s a b q r e f =
+    let k : length a / 64 * 64 ≡ 64 * (length a / 64) = omega arith in
+    ap₂ (λ (t : State) (d : List ℕ). hash_all t ((d ++ b) ++ q)) e (f ∙ ap (λ (n : ℕ). drop n a) k)
     ∙ sym (ap (hash_all h) (append_assoc a b q) ∙ hash-split h a (b ++ q) ∙ ap (hash_all (hash_all h a)) (sym (append_assoc (drop (64 * (length a / 64)) a) b q)))
 
 -- behind a block with bytes of both parts
@@ -209,20 +196,18 @@ at-start : (bs d : List ℕ) → over_at 0 bs d ≡ over bs d
 unfolding over_at over
 at-start bs d = refl
 
--- the words of a hash value written one behind the other, as h holds them
-pub five-words : (h : List ℕ) (s : State) (d d₁ d₂ d₃ d₄ d₅ : List ℕ) → h ≡ words_of s → d₁ ≡ over_at 0 (to_bytes 4 (get_or h 0 0)) d
-    → d₂ ≡ over_at 4 (to_bytes 4 (get_or h 1 0)) d₁ → d₃ ≡ over_at 8 (to_bytes 4 (get_or h 2 0)) d₂ → d₄ ≡ over_at 12 (to_bytes 4 (get_or h 3 0)) d₃
-    → d₅ ≡ over_at 16 (to_bytes 4 (get_or h 4 0)) d₄ → d₅ ≡ over (digest_of s) d
+-- the words of a hash value written one behind the other
+pub five-words : (s : State) (d d₁ d₂ d₃ d₄ d₅ : List ℕ) → d₁ ≡ over_at 0 (to_bytes 4 s.a) d → d₂ ≡ over_at 4 (to_bytes 4 s.b) d₁
+    → d₃ ≡ over_at 8 (to_bytes 4 s.c) d₂ → d₄ ≡ over_at 12 (to_bytes 4 s.d) d₃ → d₅ ≡ over_at 16 (to_bytes 4 s.e) d₄ → d₅ ≡ over (digest_of s) d
 unfolding digest_of
-five-words h s d d₁ d₂ d₃ d₄ d₅ e e₁ e₂ e₃ e₄ e₅ =
-    let w : List ℕ → ℕ → List ℕ = λ l k. to_bytes 4 (get_or l k 0) in
-    e₅ ∙ ap (over_at 16 (w h 4))
-    (e₄ ∙ ap (over_at 12 (w h 3))
-    (e₃ ∙ ap (over_at 8 (w h 2)) (e₂ ∙ ap (over_at 4 (w h 1)) (e₁ ∙ at-start (w h 0) d) ∙ over_at-over 4 (w h 0) (w h 1) d refl)
-    ∙ over_at-over 8 (w h 0 ++ w h 1) (w h 2) d refl)
-    ∙ over_at-over 12 (w h 0 ++ w h 1 ++ w h 2) (w h 3) d refl)
-    ∙ over_at-over 16 (w h 0 ++ w h 1 ++ w h 2 ++ w h 3) (w h 4) d refl
-    ∙ ap (λ (l : List ℕ). over (w l 0 ++ w l 1 ++ w l 2 ++ w l 3 ++ w l 4) d) e
+five-words s d d₁ d₂ d₃ d₄ d₅ e₁ e₂ e₃ e₄ e₅ =
+    let w : ℕ → List ℕ = to_bytes 4 in
+    e₅ ∙ ap (over_at 16 (w s.e))
+    (e₄ ∙ ap (over_at 12 (w s.d))
+    (e₃ ∙ ap (over_at 8 (w s.c)) (e₂ ∙ ap (over_at 4 (w s.b)) (e₁ ∙ at-start (w s.a) d) ∙ over_at-over 4 (w s.a) (w s.b) d refl)
+    ∙ over_at-over 8 (w s.a ++ w s.b) (w s.c) d refl)
+    ∙ over_at-over 12 (w s.a ++ w s.b ++ w s.c) (w s.d) d refl)
+    ∙ over_at-over 16 (w s.a ++ w s.b ++ w s.c ++ w s.d) (w s.e) d refl
 
 -- a digest written where there is room for no more
 pub digest-alone : (s : State) (d d₁ : List ℕ) → length d ≡ 20 → d₁ ≡ over (digest_of s) d → d₁ ≡ digest_of s

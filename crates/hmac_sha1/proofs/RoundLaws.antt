@@ -30,10 +30,6 @@ module _ (q t : ℕ) (h : 20 * q ≤ t) (l : t < 20 * q + 20) where
   unfolding round
   round-group w s = rw (ft-group, kt-group)
 
--- the constant of group n
-pub kt-of : (q n : ℕ) → q ≡ n → kt (20 * n) ≡ kt (20 * q)
-kt-of q n e = ap (λ (k : ℕ). kt (20 * k)) (sym e)
-
 -- past the third group
 module _ (q : ℕ) (a : q ≡ 0 → ⊥) (b : q ≡ 1 → ⊥) (d : q ≡ 2 → ⊥) where
   far : 60 ≤ 20 * q
@@ -52,7 +48,7 @@ module _ (q : ℕ) (a : q ≡ 0 → ⊥) (b : q ≡ 1 → ⊥) (d : q ≡ 2 → 
       rw (lt-leb (20 * q) 19 (omega arith), lt-leb (20 * q) 39 (omega arith), lt-leb (20 * q) 59 l)
 
 -- some rounds, and then more
-rounds-add : (w : List ℕ) (t m n : ℕ) (s : State) → rounds w (t + m) n (rounds w t m s) ≡ rounds w t (m + n) s
+pub rounds-add : (w : List ℕ) (t m n : ℕ) (s : State) → rounds w (t + m) n (rounds w t m s) ≡ rounds w t (m + n) s
 unfolding rounds
 rounds-add w t m zero s = rw add-zero
 rounds-add w t m (suc n) s = rw (rounds-add w t m n s, add-suc, add_assoc)

@@ -1,6 +1,5 @@
 -- Laws of the message schedule: its words, and the ring that holds sixteen of them. Assumes nothing.
-use Rattle.std.proofs.Common.{◌≡◌, ℕ, zero, suc, ◌+◌, ◌-◌, ◌%◌, ◌<◌, ◌≤◌, Bool, true, false, cond, eqb, leb, List, [], length, get_or, take, set, sym, refl, ap, ◌∙◌, not-suc-le-zero, add-zero, add-suc, add-one, arith, length-append, length-set, take_all, get_or-set_other, get_or-take, get_or-set_same, eqb-true, le-leb}
-use native.Mathlib.Nat.{mod-add-mod, add-mod_right}
+use Rattle.std.proofs.Common.{◌≡◌, ℕ, zero, suc, ◌+◌, ◌-◌, ◌%◌, ◌<◌, ◌≤◌, Bool, true, false, cond, eqb, leb, List, [], length, get_or, take, set, sym, refl, ap, ◌∙◌, add-zero, add-suc, add-one, arith, length-append, length-set, take_all, get_or-set_other, get_or-take, get_or-set_same, eqb-true, le-leb}
 use borrow.Author.Tests.{lt-leb, eqb-false}
 use lib.Seq.{take-append-le, get_or_at}
 use Rattle.hmac_sha1.specs.Sha1.{word_at, mixed, schedule}
@@ -44,20 +43,6 @@ module _ (m : List ℕ) (n t : ℕ) (h : t < n) where
 
 -- ---- the ring: one word more
 
-pub ring-empty : (m w : List ℕ) → length w ≡ 16 → Ring m 0 w
-ring-empty m w l = (l, λ k h. absurd (not-suc-le-zero h))
-
--- the place of W_{t-a} is b places ahead of W_t's
-back : (t a b : ℕ) → a ≤ t → a + b ≡ 16 → (t % 16 + b) % 16 ≡ (t - a) % 16
-back t a b h e =
-    let f : t + b ≡ t - a + 16 = omega arith in
-    mod-add-mod t 16 b ∙ ap (λ (n : ℕ). n % 16) f ∙ add-mod_right (t - a) 16
-
-whole-turn : (t : ℕ) → 16 ≤ t → t % 16 ≡ (t - 16) % 16
-whole-turn t h =
-    let f : t ≡ t - 16 + 16 = omega arith in
-    ap (λ (n : ℕ). n % 16) f ∙ add-mod_right (t - 16) 16
-
 -- p, where W_t goes, is t mod 16. In the sixteen words before W_{t+1} no other stands there.
 module _ (m w : List ℕ) (t p v : ℕ) (at : p ≡ t % 16) (r : Ring m t w) where
   place : p < length w
@@ -82,10 +67,10 @@ module _ (m w : List ℕ) (t p v : ℕ) (at : p ≡ t % 16) (r : Ring m t w) whe
 
   mixed-ring : 16 ≤ t → t < 80 → mixed_in w p ≡ mixed (schedule m 80) t
   mixed-ring l h =
-      let a : (p + 13) % 16 ≡ (t - 3) % 16 = rw at (back t 3 13 (omega arith) refl) in
-      let b : (p + 8) % 16 ≡ (t - 8) % 16 = rw at (back t 8 8 (omega arith) refl) in
-      let c : (p + 2) % 16 ≡ (t - 14) % 16 = rw at (back t 14 2 (omega arith) refl) in
-      let d : p ≡ (t - 16) % 16 = at ∙ whole-turn t l in
+      let a : (p + 13) % 16 ≡ (t - 3) % 16 = omega arith in
+      let b : (p + 8) % 16 ≡ (t - 8) % 16 = omega arith in
+      let c : (p + 2) % 16 ≡ (t - 14) % 16 = omega arith in
+      let d : p ≡ (t - 16) % 16 = omega arith in
       rw (a, b, c, d, r.1 (t - 3) (omega arith) (omega arith), r.1 (t - 8) (omega arith) (omega arith), r.1 (t - 14) (omega arith) (omega arith), r.1 (t - 16) (omega arith) (omega arith))
 
   pub ring-mixed : 16 ≤ t → t < 80 → v ≡ mixed_in w p → Ring m (t + 1) (set w p v)

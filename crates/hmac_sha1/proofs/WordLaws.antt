@@ -1,7 +1,8 @@
 -- Laws of words: Ch in three operations, and the sum of a round in another order. Assumes nothing.
-use Rattle.std.proofs.Common.{◌≡◌, ℕ, zero, suc, ◌+◌, ◌-◌, ◌*◌, ◌/◌, ◌%◌, ◌^◌, ◌<◌, sym, refl, ap, ◌∙◌, ap₂, mod-lt, pow-suc, div-add-mod', arith, lit<}
+use Rattle.std.proofs.Common.{◌≡◌, ℕ, zero, suc, ◌+◌, ◌-◌, ◌*◌, ◌/◌, ◌%◌, ◌^◌, ◌<◌, ◌≤◌, List, [], ◌∷◌, length, get_or, take, drop, add-zero, length-drop, get_or-drop, sym, refl, ap, ◌∙◌, ap₂, mod-lt, pow-suc, div-add-mod', arith, lit<}
 use native.Mathlib.Nat.{mod-add-mod}
-use lib.Bits.{bit_and, bit_xor, and_shr, and_mod, xor_shr, xor_mod}
+use lib.Bits.{bit_and, bit_or, bit_xor, or_shifted, and_shr, and_mod, xor_shr, xor_mod}
+use Rattle.octets.specs.BigEndian.{from_bytes}
 use Rattle.hmac_sha1.specs.Sha1.{add}
 
 -- ---- Ch, over the width
@@ -70,3 +71,30 @@ pub sum-order : (r f e k w : ℕ) → add (add (add (add e w) k) f) r ≡ add (a
 sum-order r f e k w =
     let o : e + w + k + f + r ≡ r + f + e + k + w = omega arith in
     sum_of e w k f r ∙ ap (λ (n : ℕ). n % 2 ^ 32) o ∙ sym (sum_of r f e k w)
+
+-- ---- the word that four bytes of a block spell, by shifts
+
+spelled : (a b c d : ℕ) → a < 2 ^ 8 → b < 2 ^ 8 → c < 2 ^ 8 → d < 2 ^ 8
+    → bit_or (bit_or (bit_or (a * 2 ^ 24 % 2 ^ 32) (b * 2 ^ 16 % 2 ^ 32)) (c * 2 ^ 8 % 2 ^ 32)) d ≡ from_bytes (a ∷ b ∷ c ∷ d ∷ [])
+spelled a b c d h i j k =
+    let x : a * 2 ^ 24 % 2 ^ 32 ≡ a * 2 ^ 24 = omega arith in
+    let y : b * 2 ^ 16 % 2 ^ 32 ≡ b * 2 ^ 16 = omega arith in
+    let z : c * 2 ^ 8 % 2 ^ 32 ≡ c * 2 ^ 8 = omega arith in
+    let p : bit_or (a * 2 ^ 24) (b * 2 ^ 16) ≡ (a * 2 ^ 8 + b) * 2 ^ 16 = or_shifted a 24 (b * 2 ^ 16) (omega arith) ∙ omega arith in
+    let q : bit_or ((a * 2 ^ 8 + b) * 2 ^ 16) (c * 2 ^ 8) ≡ ((a * 2 ^ 8 + b) * 2 ^ 8 + c) * 2 ^ 8 = or_shifted (a * 2 ^ 8 + b) 16 (c * 2 ^ 8) (omega arith) ∙ omega arith in
+    ap (λ (n : ℕ). bit_or n d) (ap₂ bit_or (ap₂ bit_or x y ∙ p) z ∙ q) ∙ or_shifted ((a * 2 ^ 8 + b) * 2 ^ 8 + c) 8 d k ∙ omega arith
+
+first-four : (l : List ℕ) → 4 ≤ length l → take 4 l ≡ get_or l 0 0 ∷ get_or l 1 0 ∷ get_or l 2 0 ∷ get_or l 3 0 ∷ []
+first-four [] h = absurd (omega arith)
+first-four (a ∷ []) h = absurd (omega arith)
+first-four (a ∷ b ∷ []) h = absurd (omega arith)
+first-four (a ∷ b ∷ c ∷ []) h = absurd (omega arith)
+first-four (a ∷ b ∷ c ∷ d ∷ l) h = refl
+
+module _ (m : List ℕ) (i : ℕ) (l : i + 4 ≤ length m) where
+  pub word-spelled : get_or m i 0 < 2 ^ 8 → get_or m (i + 1) 0 < 2 ^ 8 → get_or m (i + 2) 0 < 2 ^ 8 → get_or m (i + 3) 0 < 2 ^ 8
+      → bit_or (bit_or (bit_or (get_or m i 0 * 2 ^ 24 % 2 ^ 32) (get_or m (i + 1) 0 * 2 ^ 16 % 2 ^ 32)) (get_or m (i + 2) 0 * 2 ^ 8 % 2 ^ 32)) (get_or m (i + 3) 0)
+      ≡ from_bytes (take 4 (drop i m))
+  word-spelled a b c d =
+      spelled (get_or m i 0) (get_or m (i + 1) 0) (get_or m (i + 2) 0) (get_or m (i + 3) 0) a b c d
+      ∙ ap from_bytes (sym (simp (get_or-drop, add-zero) at (first-four (drop i m) (omega (arith, length-drop i m)))))

@@ -1,24 +1,11 @@
 // One block of SHA-1 (FIPS 180-4, section 6.1.3): the message schedule in a ring of sixteen words, the eighty rounds, the sum with the
-// hash value before. W_t stands at place t mod 16 of the ring, where W_{t-16} stood.
-ghost use Rattle.std.specs.Prelude.{◌≡◌, ℕ, ◌+◌, ◌-◌, ◌*◌, ◌%◌, ◌<◌, ◌≤◌, List, length};
-ghost use Rattle.hmac_sha1.specs.Sha1.{add, rotl, ch, parity, maj, ft, kt, schedule, round, rounds, sum, compress};
-ghost use Rattle.hmac_sha1.specs.declared.State.{State};
-ghost use Rattle.hmac_sha1.specs.Parts.{Ring, mixed_in, words_of};
+// hash value before. W_t stands at place t mod 16 of the ring, where W_{t-16} stood. The ring is no struct with an invariant: what it holds
+// is said of a block and of how far its schedule has come (`Ring`), which the struct would have to keep for the proofs alone.
+ghost use Rattle.std.specs.Prelude.{◌≡◌, ℕ, ◌+◌, ◌-◌, ◌*◌, ◌%◌, ◌<◌, ◌≤◌, List};
+ghost use Rattle.hmac_sha1.specs.Sha1.{word_at, ch, parity, maj, ft, kt, round, sum, compress};
+ghost use Rattle.hmac_sha1.specs.Parts.{Ring, IsAfterRounds, mixed_in};
 
 use crate::State;
-
-fn add(x: u32, y: u32) -> u32
-    ensures { result ≡ add x y }
-{
-    std::num::wrapping_add_u32(x, y)
-}
-
-fn rotl(n: u32, x: u32) -> u32
-    requires { (0 < n) × (n < 32) }
-    ensures { result ≡ rotl n x }
-{
-    (x << n) | (x >> (32 - n))
-}
 
 // Ch in three operations, where the standard's form has four.
 fn ch(x: u32, y: u32, z: u32) -> u32
@@ -39,7 +26,8 @@ fn maj(x: u32, y: u32, z: u32) -> u32
     (x & y) ^ (x & z) ^ (y & z)
 }
 
-// f_t and K_t are the same for the twenty rounds from 20 q on. So a loop over these has no test of t.
+// f_t and K_t are the same for the twenty rounds from 20 q on. So a loop over these has no test of t. `q` is a number, for it counts rounds,
+// and no closure for f_t: its contract would have to say for which rounds it is f_t, which `q` says.
 fn round_function(q: usize, x: u32, y: u32, z: u32) -> u32
     ensures { result ≡ ft (20 * q) x y z }
 {
@@ -67,15 +55,13 @@ fn round(q: usize, w: u32, s: State) -> State
     ensures { result ≡ round (20 * q) w s }
 {
     State {
-        a: add(
-            add(
-                add(add(s.e, w), round_constant(q)),
-                round_function(q, s.b, s.c, s.d),
-            ),
-            rotl(5, s.a),
-        ),
+        a: s.e
+            .wrapping_add(w)
+            .wrapping_add(round_constant(q))
+            .wrapping_add(round_function(q, s.b, s.c, s.d))
+            .wrapping_add(s.a.rotate_left(5)),
         b: s.a,
-        c: rotl(30, s.b),
+        c: s.b.rotate_left(30),
         d: s.c,
         e: s.d,
     }
@@ -84,7 +70,7 @@ fn round(q: usize, w: u32, s: State) -> State
 // Rounds t to t + 3, written out: in a loop over single rounds the compiler adds `a` sooner, and each round waits longer for the one before.
 fn four_rounds(w: &[u32; 16], q: usize, t: usize, s: State) -> State
     requires { (t % 4 ≡ 0) × (20 * q ≤ t) × (t < 20 * q + 20) }
-    ensures { (m : List ℕ) (n : ℕ) → t + 4 ≤ n → n ≤ t + 16 → Ring m n w.now → result ≡ rounds (schedule m 80) t 4 s }
+    ensures { IsAfterRounds w.now t 4 s result }
 {
     let i = t % 16;
     let s1 = round(q, w[i], s);
@@ -96,27 +82,32 @@ fn four_rounds(w: &[u32; 16], q: usize, t: usize, s: State) -> State
 // The rounds from `from` to `to` by fours, all among the twenty from 20 q on, with words that the ring holds at once.
 fn rounds(w: &[u32; 16], q: usize, from: usize, to: usize, s: State) -> State
     requires { (from % 4 ≡ 0) × (to % 4 ≡ 0) × (20 * q ≤ from) × (from ≤ to) × (to ≤ 20 * q + 20) }
-    ensures { (m : List ℕ) (n : ℕ) → to ≤ n → n ≤ from + 16 → Ring m n w.now → result ≡ rounds (schedule m 80) from (to - from) s }
+    ensures { IsAfterRounds w.now from (to - from) s result }
 {
     let mut v = s;
-    let mut t = from;
-    while t < to {
-        v = four_rounds(w, q, t, v);
-        t += 4;
+    for i in 0..(to - from) / 4 {
+        v = four_rounds(w, q, from + 4 * i, v);
     }
     v
 }
 
-// The sixteen words of the block `m`.
-fn load_words(m: &[u8]) -> [u32; 16]
-    requires { length m.now ≡ 64 }
+// Word t of the block `m`, the highest byte first. By shifts, and not by `octets::load`: behind that the compiler orders the rounds so that an
+// HMAC of 400 bytes takes 2 % longer.
+fn word(m: &[u8; 64], t: usize) -> u32
+    requires { t < 16 }
+    ensures { result ≡ word_at m.now t }
+{
+    let at = 4 * t;
+    (m[at] as u32) << 24 | (m[at + 1] as u32) << 16 | (m[at + 2] as u32) << 8 | m[at + 3] as u32
+}
+
+// The sixteen words of the block `m`. (`array::from_fn` would want a closure with a contract of its own.)
+fn load_words(m: &[u8; 64]) -> [u32; 16]
     ensures { Ring m.now 16 result }
 {
     let mut w = [0u32; 16];
-    let mut t = 0;
-    while t < 16 {
-        w[t] = octets::load32(m, 4 * t);
-        t += 1;
+    for t in 0..16 {
+        w[t] = word(m, t);
     }
     w
 }
@@ -127,17 +118,15 @@ fn mixed(w: &[u32; 16], i: usize) -> u32
     ensures { result ≡ mixed_in w.now i }
 {
     let x = w[(i + 13) % 16] ^ w[(i + 8) % 16] ^ w[(i + 2) % 16] ^ w[i];
-    rotl(1, x)
+    x.rotate_left(1)
 }
 
 // The next sixteen words take the places of those before.
 fn advance(w: &mut [u32; 16])
     ensures { (m : List ℕ) (t : ℕ) → t % 16 ≡ 0 → 16 ≤ t → t ≤ 64 → Ring m t w.old → Ring m (t + 16) w.new }
 {
-    let mut i = 0;
-    while i < 16 {
+    for i in 0..16 {
         w[i] = mixed(w, i);
-        i += 1;
     }
 }
 
@@ -145,17 +134,16 @@ fn sum(s: State, h: State) -> State
     ensures { result ≡ sum s h }
 {
     State {
-        a: add(s.a, h.a),
-        b: add(s.b, h.b),
-        c: add(s.c, h.c),
-        d: add(s.d, h.d),
-        e: add(s.e, h.e),
+        a: s.a.wrapping_add(h.a),
+        b: s.b.wrapping_add(h.b),
+        c: s.c.wrapping_add(h.c),
+        d: s.d.wrapping_add(h.d),
+        e: s.e.wrapping_add(h.e),
     }
 }
 
 // The hash value after the block `m`, from the one before, `h`.
-fn compress(h: State, m: &[u8]) -> State
-    requires { length m.now ≡ 64 }
+fn compress(h: State, m: &[u8; 64]) -> State
     ensures { result ≡ compress h m.now }
 {
     let mut w = load_words(m);
@@ -174,15 +162,12 @@ fn compress(h: State, m: &[u8]) -> State
     sum(s, h)
 }
 
-// The same in place. A hash value that is stored by words is read by words too: a copy of it whole would have to wait for them.
-pub fn compress_in(h: &mut [u32; 5], m: &[u8])
-    requires { length m.now ≡ 64 }
-    ensures { (s : State) → h.old ≡ words_of s → h.new ≡ words_of (compress s m.now) }
-{
-    let s = compress(State::of(h), m);
-    h[0] = s.a;
-    h[1] = s.b;
-    h[2] = s.c;
-    h[3] = s.d;
-    h[4] = s.e;
+impl State {
+    // The same in place. It's a function of its own, for where `compress` is inlined, its loops written out, the compiler puts the sums of the
+    // rounds in order once more: in a single function a block takes 2 % longer.
+    pub(crate) fn compress(&mut self, m: &[u8; 64])
+        ensures { self.new ≡ compress self.old m.now }
+    {
+        *self = compress(*self, m);
+    }
 }

@@ -5,7 +5,6 @@ ghost use Rattle.std.specs.Prelude.{◌≡◌, ◌+◌, ◌*◌, ◌^◌, ◌<�
 ghost use Rattle.octets.specs.Xor.{xors};
 ghost use Rattle.hmac_sha1.specs.declared.State.{State};
 ghost use Rattle.hmac_sha1.specs.Sha1.{initial, compress, sha1};
-ghost use Rattle.hmac_sha1.specs.Parts.{words_of};
 ghost use Rattle.hmac_sha1.specs.Hmac.{key_state, hmac_key, hmac_with};
 
 mod block;
@@ -23,38 +22,14 @@ pub struct State {
 }
 
 impl State {
-    // Its words.
-    fn words(self) -> [u32; 5]
-        ensures { result ≡ words_of self }
-    {
-        [self.a, self.b, self.c, self.d, self.e]
-    }
-
-    // The hash value with these words.
-    fn of(h: &[u32; 5]) -> State
-        ensures { (s : State) → h.now ≡ words_of s → result ≡ s }
-    {
-        State {
-            a: h[0],
-            b: h[1],
-            c: h[2],
-            d: h[3],
-            e: h[4],
-        }
-    }
-}
-
-// The initial hash value.
-fn initial() -> State
-    ensures { result ≡ initial }
-{
-    State {
+    // The initial hash value.
+    const INITIAL: State = State {
         a: 0x6745_2301,
         b: 0xefcd_ab89,
         c: 0x98ba_dcfe,
         d: 0x1032_5476,
         e: 0xc3d2_e1f0,
-    }
+    };
 }
 
 // The digest of `a` followed by `b`. As FIPS 180-4 has it, a message is shorter than 2^64 bits.
@@ -62,11 +37,10 @@ pub fn digest(a: &[u8], b: &[u8]) -> [u8; 20]
     requires { 8 * (length a.now + length b.now) < 2 ^ 64 }
     ensures { result ≡ sha1 (a.now ++ b.now) }
 {
-    let first = initial();
-    let mut h = first.words();
-    message::hash_after(&mut h, 0, a, b);
+    let mut h = State::INITIAL;
+    h.hash_after(0, a, b);
     let mut d = [0u8; 20];
-    message::put_digest(&h, &mut d);
+    h.put_digest(&mut d);
     d
 }
 
@@ -78,7 +52,7 @@ pub struct HmacKey {
     pub outer: State,
 }
 
-// `k` with each byte XORed with `v`.
+// `k` with each byte XORed with `v`. By `xor_over`, whose contract is in `xors`, as RFC 2104's pads are.
 fn xor_pad(k: [u8; 64], v: u8) -> [u8; 64]
     ensures { result ≡ xors k (replicate 64 v) }
 {
@@ -88,26 +62,19 @@ fn xor_pad(k: [u8; 64], v: u8) -> [u8; 64]
     d
 }
 
-// The hash value after a message's first block.
-fn after_first(m: [u8; 64]) -> State
-    ensures { result ≡ compress initial m }
-{
-    let first = initial();
-    let mut h = first.words();
-    block::compress_in(&mut h, &m);
-    State::of(&h)
-}
-
 // The state of a key that has been brought to a block's length.
 fn key_state(k: [u8; 64]) -> HmacKey
     ensures { result ≡ key_state k }
 {
     let i = xor_pad(k, 0x36);
     let o = xor_pad(k, 0x5c);
-    HmacKey {
-        inner: after_first(i),
-        outer: after_first(o),
-    }
+    let mut key = HmacKey {
+        inner: State::INITIAL,
+        outer: State::INITIAL,
+    };
+    key.inner.compress(&i);
+    key.outer.compress(&o);
+    key
 }
 
 // The state of a key of any length: one of over 64 bytes is hashed first, so it is shorter than 2^64 bits.
@@ -116,11 +83,11 @@ pub fn hmac_key(key: &[u8]) -> HmacKey
     ensures { result ≡ hmac_key key.now }
 {
     if key.len() <= 64 {
-        let k = message::zero_filled(key, b"");
+        let k = message::zero_filled(key);
         return key_state(k);
     }
     let d = digest(key, b"");
-    let k = message::zero_filled(&d, b"");
+    let k = message::zero_filled(&d);
     key_state(k)
 }
 
@@ -129,11 +96,9 @@ pub fn hmac(key: HmacKey, a: &[u8], b: &[u8], d: &mut [u8; 20])
     requires { 8 * (64 + (length a.now + length b.now)) < 2 ^ 64 }
     ensures { d.new ≡ hmac_with key (a.now ++ b.now) }
 {
-    let inner = key.inner;
-    let mut h = inner.words();
-    message::hash_after(&mut h, 64, a, b);
-    let outer = key.outer;
-    let mut o = outer.words();
-    message::hash_digest(&mut o, &h);
-    message::put_digest(&o, d);
+    let mut h = key.inner;
+    h.hash_after(64, a, b);
+    let mut o = key.outer;
+    o.hash_digest(&h);
+    o.put_digest(d);
 }

@@ -3,11 +3,12 @@
 #![tactic(auto)]
 
 mod cases;
-mod counted;
 mod damage;
+mod datagram;
 mod ends;
 mod evening;
 mod late_joiner;
+mod link;
 mod network;
 mod packet;
 mod repeats;

@@ -1,8 +1,8 @@
 // A satellite room gets packets in a bad order, the last one first, over the whole length of the window and on both sides of a rollover: all are
 // let in, each at its own index, and none twice; only what comes behind the window is old.
-use crate::packet;
-use crate::packet::Link;
-use srtp::Receiver;
+use crate::datagram::Datagram;
+use crate::link::Link;
+use crate::packet::{Control, Media};
 use std::io;
 
 // The ends of the window, and both sides of three borders of 64 in it, the rollover among them: 1,023, 960, 959, 512, 511, 64, 63 and 0 behind
@@ -10,95 +10,56 @@ use std::io;
 const NUMBERS: [u16; 8] = [65024, 65087, 65088, 65535, 0, 447, 448, 511];
 
 pub fn run(rt: &impl Print) -> io::Result<()> {
-    words::line(
-        rt,
-        b"a satellite room gets packets in a bad order, the last one first",
-    )?;
-    let mut first = [0u8; 26];
-    let mut packets = [[0u8; 26]; 8];
-    let link = Link::usual().deliver(rt, 65022, &mut first)?;
-    let link = disorder(rt, link, &mut packets)?;
-    let link = jumps(rt, link, &packets[7])?;
-    control(rt, link)
+    println!(rt; "a satellite room gets packets in a bad order, the last one first")?;
+    let mut link = Link::usual();
+    link.deliver(rt, Media(65022))?;
+    let highest = disorder(rt, &mut link)?;
+    jumps(rt, &mut link, &highest)?;
+    control(rt, &mut link)
 }
 
-// The packet sent before all of them comes last.
-fn disorder(rt: &impl Print, link: Link, packets: &mut [[u8; 26]; 8]) -> io::Result<Link> {
-    let mut late = [0u8; 26];
-    let link = send_all(rt, link.send(rt, 65023, &mut late)?, packets)?;
-    let link = receive_all(rt, link, packets)?;
-    words::line(
-        rt,
-        b"all of them come again, and the one sent before them comes 1,024 behind",
-    )?;
-    receive_all(rt, link, packets)?.receive(rt, 65023, &late)
+// The packet sent before all of them comes last. Answers the one with the highest index.
+fn disorder(rt: &impl Print, link: &mut Link) -> io::Result<Datagram> {
+    let late = link.send(rt, Media(65023))?;
+    let sent = NUMBERS.try_map(|number| link.send(rt, Media(number)))?;
+    receive_all(rt, link, &sent)?;
+    println!(rt; "all of them come again, and the one sent before them comes 1,024 behind")?;
+    receive_all(rt, link, &sent)?;
+    link.receive(rt, Media(65023), &late)?;
+    Ok(sent[7])
 }
 
-fn send_all(rt: &impl Print, link: Link, packets: &mut [[u8; 26]; 8]) -> io::Result<Link> {
-    let numbers = NUMBERS;
-    let mut link = link;
-    for j in 0..8 {
-        link = link.send(rt, numbers[j], &mut packets[j])?;
+// Every third, round and round from the last one on. What was sent lies in the order of `NUMBERS`.
+fn receive_all(rt: &impl Print, link: &mut Link, sent: &[Datagram; 8]) -> io::Result<()> {
+    let round = NUMBERS.iter().zip(sent).cycle();
+    for (number, datagram) in round.skip(7).step_by(3).take(8) {
+        link.receive(rt, Media(*number), datagram)?;
     }
-    Ok(link)
-}
-
-// Every third, round and round from the last one on.
-fn receive_all(rt: &impl Print, link: Link, packets: &[[u8; 26]; 8]) -> io::Result<Link> {
-    let numbers = NUMBERS;
-    let mut link = link;
-    for j in 0..8 {
-        let k = (3 * j + 7) % 8;
-        link = link.receive(rt, numbers[k], &packets[k])?;
-    }
-    Ok(link)
-}
-
-// Number 511 has the highest index so far. The window moves on by all of its length but one, and then by all of it.
-fn jumps(rt: &impl Print, link: Link, highest: &[u8]) -> io::Result<Link> {
-    words::line(
-        rt,
-        b"after a jump by 1,023 the highest before it comes again",
-    )?;
-    let mut higher = [0u8; 26];
-    let link = link
-        .deliver(rt, 1534, &mut higher)?
-        .receive(rt, 511, highest)?;
-    words::line(
-        rt,
-        b"so it does after a jump by 1,024, and a packet that was overtaken comes 1,023 behind",
-    )?;
-    let mut overtaken = [0u8; 26];
-    let mut out = [0u8; 26];
-    let link = link
-        .send(rt, 1535, &mut overtaken)?
-        .deliver(rt, 2558, &mut out)?;
-    link.receive(rt, 1534, &higher)?
-        .receive(rt, 1535, &overtaken)
-}
-
-// Control packets have a window of their own.
-fn control(rt: &impl Print, link: Link) -> io::Result<()> {
-    words::line(rt, b"control packets come in reverse order, and so again")?;
-    let mut a = [0u8; 22];
-    let mut b = [0u8; 22];
-    let mut c = [0u8; 22];
-    let s = packet::send_control(rt, link.sender, &mut a)?;
-    let s = packet::send_control(rt, s, &mut b)?;
-    packet::send_control(rt, s, &mut c)?;
-    let r = receive_reversed(rt, link.receiver, &a, &b, &c)?;
-    receive_reversed(rt, r, &a, &b, &c)?;
     Ok(())
 }
 
-fn receive_reversed(
-    rt: &impl Print,
-    r: Receiver,
-    a: &[u8; 22],
-    b: &[u8; 22],
-    c: &[u8; 22],
-) -> io::Result<Receiver> {
-    let r = packet::receive_control(rt, r, c)?;
-    let r = packet::receive_control(rt, r, b)?;
-    packet::receive_control(rt, r, a)
+// Number 511 has the highest index so far. The window moves on by all of its length but one, and then by all of it.
+fn jumps(rt: &impl Print, link: &mut Link, highest: &Datagram) -> io::Result<()> {
+    println!(rt; "after a jump by 1,023 the highest before it comes again")?;
+    let higher = link.deliver(rt, Media(1534))?;
+    link.receive(rt, Media(511), highest)?;
+    println!(rt;
+        "so it does after a jump by 1,024, and a packet that was overtaken comes 1,023 behind"
+    )?;
+    let overtaken = link.send(rt, Media(1535))?;
+    link.deliver(rt, Media(2558))?;
+    link.receive(rt, Media(1534), &higher)?;
+    link.receive(rt, Media(1535), &overtaken)
+}
+
+// Control packets have a window of their own.
+fn control(rt: &impl Print, link: &mut Link) -> io::Result<()> {
+    println!(rt; "control packets come in reverse order, and so again")?;
+    let sent = [Control; 3].try_map(|packet| link.send(rt, packet))?;
+    for _ in 0..2 {
+        for datagram in sent.iter().rev() {
+            link.receive(rt, Control, datagram)?;
+        }
+    }
+    Ok(())
 }

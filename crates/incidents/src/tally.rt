@@ -1,68 +1,52 @@
-// What came of an evening's packets of one kind, media or control: how often the answer was the one that it should be, and which indices were
-// let in. Where an answer is another, a line says so.
-ghost use Rattle.std.specs.Prelude.{◌≤◌};
-
+// What came of an evening's packets of one kind: how often the answer was the one that it should be, and which of them were let in. Where an
+// answer is another, a line says so.
+use crate::datagram::Datagram;
+use crate::link::Link;
+use crate::packet::{Packet, Received};
 use srtp::{Answer, Refusal};
 use std::io;
 
 // A packet goes by a byte, so that it has its place whichever it is.
-pub const SLOTS: usize = 256;
-// A mark for each packet, and one for an index that none of them has.
-const MARKS: usize = 257;
+const PLACES: usize = 256;
 
-// What came: a packet, or bytes that were not sent as they are.
+// A packet and what became of it.
 #[derive(Clone, Copy)]
-pub enum Came {
-    Packet(u8),
-    Strange,
+struct Place<P> {
+    packet: P,
+    datagram: Datagram,
+    // Where the sender put it, once it was sent.
+    index: Option<u64>,
+    delivered: bool,
+    let_in: bool,
 }
 
-#[derive(Clone, Copy)]
-pub struct Tally {
-    // The index that the sender answered for each packet.
-    indices: [u64; SLOTS],
-    // What was delivered and what was let in, as marks.
-    delivered: [u8; MARKS],
-    let_in: [u8; MARKS],
-    sent: u64,
+// A count stays at its top. No evening gets there.
+#[derive(Drop)]
+pub struct Tally<P> {
+    places: [Place<P>; PLACES],
+    // Whether an index was let in that none of them has.
+    other_let_in: bool,
     deliveries: u64,
-    packets: u64,
     as_sent: u64,
     repeats: u64,
     strange: u64,
     refused: u64,
 }
 
-// A count that stays at its top. No evening gets there.
-fn one_more(n: u64) -> u64 {
-    if n == u64::MAX {
-        return n;
-    }
-    n + 1
-}
-
-// Which packet has this index: `SLOTS` where none has it.
-fn with_index(indices: [u64; SLOTS], index: u64) -> usize
-    ensures { result ≤ 256 }
-{
-    for k in 0..SLOTS {
-        if indices[k] == index {
-            return k;
-        }
-    }
-    SLOTS
-}
-
-impl Tally {
-    // Nothing was sent. No packet has the index that stands here for it.
-    pub fn empty() -> Tally {
+impl<P: Packet> Tally<P> {
+    // Nothing was sent.
+    pub fn new() -> Self {
+        let place = Place {
+            packet: P::default(),
+            datagram: Datagram::empty(),
+            index: None,
+            delivered: false,
+            let_in: false,
+        };
         Tally {
-            indices: [u64::MAX; SLOTS],
-            delivered: [0; MARKS],
-            let_in: [0; MARKS],
-            sent: 0,
+            places: [place; PLACES],
+            other_let_in: false,
             deliveries: 0,
-            packets: 0,
             as_sent: 0,
             repeats: 0,
             strange: 0,
@@ -70,163 +54,122 @@ impl Tally {
         }
     }
 
-    // Packet `k` was sent.
-    pub fn send(self, rt: &impl Print, k: u8, answer: Answer) -> io::Result<Tally> {
-        let Answer::Sent { len: _, index } = answer else {
-            words::line(rt, b"  but a packet was not sent")?;
-            return Ok(self);
+    // What was sent as packet `k`.
+    pub fn datagram(&self, k: u8) -> &Datagram {
+        &self.places[k as usize].datagram
+    }
+
+    // This packet is sent as number `k`.
+    pub fn send(&mut self, rt: &impl Print, link: &mut Link, k: u8, packet: P) -> io::Result<()> {
+        let (answer, datagram) = link.protect(packet);
+        let Ok(finished) = answer else {
+            return println!(rt; "  but a packet was not sent");
         };
-        let sent = one_more(self.sent);
-        let mut tally = self;
-        tally.indices[k as usize] = index;
-        tally.sent = sent;
-        Ok(tally)
-    }
-
-    // The sequence number of what came.
-    pub fn number(self, came: Came) -> u16 {
-        match came {
-            Came::Packet(k) => (self.indices[k as usize] % 0x1_0000) as u16,
-            Came::Strange => 0,
-        }
-    }
-
-    // The answer to what came; `as_sent` says whether it let in the packet that was sent.
-    pub fn receive(
-        self,
-        rt: &impl Print,
-        came: Came,
-        answer: Answer,
-        as_sent: bool,
-    ) -> io::Result<Tally> {
-        let tally = self.enter(answer);
-        match came {
-            Came::Packet(k) => tally.deliver(rt, k, answer, as_sent),
-            Came::Strange => tally.strange(rt, answer),
-        }
-    }
-
-    // Marks the index that was let in, whatever came.
-    fn enter(self, answer: Answer) -> Tally {
-        let Answer::Sent { len: _, index } = answer else {
-            return self;
+        self.places[k as usize] = Place {
+            packet,
+            datagram,
+            index: Some(finished.index),
+            delivered: false,
+            let_in: false,
         };
-        let indices = self.indices;
-        let k = with_index(indices, index);
-        let mut tally = self;
-        tally.let_in[k] = 1;
-        tally
+        Ok(())
     }
 
-    fn deliver(self, rt: &impl Print, k: u8, answer: Answer, as_sent: bool) -> io::Result<Tally> {
-        let deliveries = one_more(self.deliveries);
-        let mut tally = self;
-        tally.deliveries = deliveries;
-        if self.delivered[k as usize] == 1 {
-            return tally.again(rt, answer);
+    // Packet `k` comes.
+    pub fn deliver(&mut self, rt: &impl Print, link: &mut Link, k: u8) -> io::Result<()> {
+        let place = self.places[k as usize];
+        let received = link.open(place.packet, &place.datagram);
+        self.enter(received.answer);
+        self.deliveries = self.deliveries.saturating_add(1);
+        self.places[k as usize].delivered = true;
+        if place.delivered {
+            self.again(rt, received.answer)
+        } else {
+            self.first(rt, place.index, received)
         }
-        tally.delivered[k as usize] = 1;
-        let index = self.indices[k as usize];
-        tally.first(rt, index, answer, as_sent)
+    }
+
+    // Marks what was let in, whatever came.
+    fn enter(&mut self, answer: Answer) {
+        let Ok(finished) = answer else {
+            return;
+        };
+        match self
+            .places
+            .iter_mut()
+            .find(|p| p.index == Some(finished.index))
+        {
+            Some(place) => place.let_in = true,
+            None => self.other_let_in = true,
+        }
     }
 
     // A packet that was sent at this index comes for the first time.
-    fn first(
-        self,
-        rt: &impl Print,
-        index: u64,
-        answer: Answer,
-        as_sent: bool,
-    ) -> io::Result<Tally> {
-        let packets = one_more(self.packets);
-        let mut tally = self;
-        tally.packets = packets;
-        let Answer::Sent {
-            len: _,
-            index: let_in,
-        } = answer
-        else {
-            words::line(rt, b"  but a packet was refused at its first delivery")?;
-            return Ok(tally);
+    fn first(&mut self, rt: &impl Print, index: Option<u64>, received: Received) -> io::Result<()> {
+        let Ok(finished) = received.answer else {
+            return println!(rt; "  but a packet was refused at its first delivery");
         };
-        if let_in != index {
-            words::line(rt, b"  but a packet was let in as another index")?;
-            return Ok(tally);
+        if index != Some(finished.index) {
+            return println!(rt; "  but a packet was let in as another index");
         }
-        if !as_sent {
-            words::line(rt, b"  but a packet came out as another")?;
-            return Ok(tally);
+        if !received.as_sent {
+            return println!(rt; "  but a packet came out as another");
         }
-        let as_sent = one_more(self.as_sent);
-        tally.as_sent = as_sent;
-        Ok(tally)
+        self.as_sent = self.as_sent.saturating_add(1);
+        Ok(())
     }
 
     // A packet comes that was delivered before.
-    fn again(self, rt: &impl Print, answer: Answer) -> io::Result<Tally> {
-        let Answer::Refused(refusal) = answer else {
-            words::line(rt, b"  but a packet was let in twice")?;
-            return Ok(self);
-        };
-        let Refusal::Repeat = refusal else {
-            words::line(rt, b"  but a repeat was not refused as one")?;
-            return Ok(self);
-        };
-        let repeats = one_more(self.repeats);
-        let mut tally = self;
-        tally.repeats = repeats;
-        Ok(tally)
-    }
-
-    fn strange(self, rt: &impl Print, answer: Answer) -> io::Result<Tally> {
-        let strange = one_more(self.strange);
-        let mut tally = self;
-        tally.strange = strange;
-        let Answer::Refused(_) = answer else {
-            words::line(rt, b"  but a strange packet was let in")?;
-            return Ok(tally);
-        };
-        let refused = one_more(self.refused);
-        tally.refused = refused;
-        Ok(tally)
-    }
-
-    // The sums, of packets of this kind.
-    pub fn say(self, rt: &impl Print, kind: &[u8]) -> io::Result<()> {
-        words::text(rt, b"  ")?;
-        words::text(rt, kind)?;
-        count(rt, b" packets sent: ", self.sent)?;
-        words::text(rt, b"  delivered: ")?;
-        words::number(rt, self.packets)?;
-        words::text(rt, b" of them, in ")?;
-        words::number(rt, self.deliveries)?;
-        words::line(rt, b" deliveries")?;
-        count(
-            rt,
-            b"  let in at their first delivery, as they were sent: ",
-            self.as_sent,
-        )?;
-        count(rt, b"  refused as repeats: ", self.repeats)?;
-        words::text(rt, b"  damaged and strange ones refused: ")?;
-        words::number(rt, self.refused)?;
-        count(rt, b" of ", self.strange)?;
-        self.compare(rt)
-    }
-
-    // Whether what was let in is what was delivered.
-    fn compare(self, rt: &impl Print) -> io::Result<()> {
-        let delivered = self.delivered;
-        let let_in = self.let_in;
-        if octets::same(&delivered, &let_in) {
-            words::line(rt, b"  the indices let in are those delivered")
-        } else {
-            words::line(rt, b"  but the indices let in are not those delivered")
+    fn again(&mut self, rt: &impl Print, answer: Answer) -> io::Result<()> {
+        match answer {
+            Err(Refusal::Repeat) => {
+                self.repeats = self.repeats.saturating_add(1);
+                Ok(())
+            }
+            Err(_) => println!(rt; "  but a repeat was not refused as one"),
+            Ok(_) => println!(rt; "  but a packet was let in twice"),
         }
     }
-}
 
-fn count(rt: &impl Print, what: &[u8], n: u64) -> io::Result<()> {
-    words::text(rt, what)?;
-    words::number(rt, n)?;
-    words::text(rt, b"\n")
+    // Something comes that was not sent as it is.
+    pub fn strange(
+        &mut self,
+        rt: &impl Print,
+        link: &mut Link,
+        datagram: &Datagram,
+    ) -> io::Result<()> {
+        let answer = link.open(P::default(), datagram).answer;
+        self.enter(answer);
+        self.strange = self.strange.saturating_add(1);
+        if answer.is_ok() {
+            return println!(rt; "  but a strange packet was let in");
+        }
+        self.refused = self.refused.saturating_add(1);
+        Ok(())
+    }
+
+    // The sums.
+    pub fn say(&self, rt: &impl Print) -> io::Result<()> {
+        let sent = self.places.iter().filter(|p| p.index.is_some()).count();
+        let delivered = self.places.iter().filter(|p| p.delivered).count();
+        println!(rt; "  {} packets sent: {sent}", P::KIND)?;
+        println!(rt;
+            "  delivered: {delivered} of them, in {} deliveries",
+            self.deliveries
+        )?;
+        println!(rt;
+            "  let in at their first delivery, as they were sent: {}",
+            self.as_sent
+        )?;
+        println!(rt; "  refused as repeats: {}", self.repeats)?;
+        println!(rt;
+            "  damaged and strange ones refused: {} of {}",
+            self.refused, self.strange
+        )?;
+        if self.places.iter().all(|p| p.let_in == p.delivered) && !self.other_let_in {
+            println!(rt; "  the indices let in are those delivered")
+        } else {
+            println!(rt; "  but the indices let in are not those delivered")
+        }
+    }
 }

@@ -61,6 +61,11 @@ over_at-part at k bs d e =
     let h : length (drop at d) ≤ k = omega (arith, length-drop at d) in
     simp (take_all k (drop at d) h, drop_of_length-le (drop at d) h, append-nil)
 
+-- what stands in the whole once bs was written over as many bytes from at on
+pub over_at-middle : (at k : ℕ) (bs d : List ℕ) → k ≡ length bs → take at d ++ (bs ++ drop k (drop at d)) ≡ over_at at bs d
+unfolding over over_at
+over_at-middle at k bs d e = rw e
+
 -- ---- a loop that writes bs over d: after n turns the first n bytes are there
 module _ (bs d : List ℕ) (h : length bs ≤ length d) where
   pub none_over : d ≡ over (take 0 bs) d

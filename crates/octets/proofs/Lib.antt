@@ -1,5 +1,5 @@
 pub mod BigEndianLaws
 pub mod XorLaws
 pub mod BufferLaws
-pub mod WordLaws
 pub mod EqualLaws
+pub mod WordLaws

@@ -4,7 +4,7 @@ use mathlib.Core.Path.{◌≡◌, refl, sym, ap, ap₂, ◌∙◌}
 use mathlib.Core.Bool.{Bool, true, false}
 use mathlib.Core.List.{List, [], ◌∷◌, ◌++◌}
 use Prim.Native.Nat.{ℕ, zero, suc, ◌+◌, ◌-◌, ◌*◌, ◌/◌, ◌%◌, ◌^◌, ◌≤◌, ◌<◌}
-use native.Mathlib.Nat.{mod-lt, mod-one, mul_assoc, mul_right_comm, zero-div, add-mul, mul-add-mod_self_right}
+use native.Mathlib.Nat.{mod-lt, mod-one, mul_assoc, mul_right_comm, add-mul, mul-add-mod_self_right}
 use native.Mathlib.Omega.{arith}
 use lib.ListN.{length, get_or, set, take, replicate}
 use lib.Dec.{ltb}
@@ -12,8 +12,9 @@ use lib.Arith.{digits_lt}
 use lib.Pow.{pow_pos, pow-add, pow-lt, high, low, split, shr-shr, shr_lt, mod-pow-add}
 use lib.Bits.{bit_or, or_block, or_zero_r, or_lt, or_shifted}
 use borrow.Author.Tests.{ltb-true, ltb-false}
+use Rattle.std.proofs.lemmas.Nat.Bits.{bit_at_cat_low, bit_at_cat_high}
 use Rattle.replay.specs.Row.{bit, from_words, to_words}
-use Rattle.replay.proofs.BitLaws.{digit, digit-mod}
+use Rattle.replay.proofs.BitLaws.{bit-zero}
 
 -- each is a word
 abbrev pub Words : List ℕ → Type 0
@@ -65,7 +66,7 @@ to-mod m x =
 -- ---- a bit
 pub row-bit : (ws : List ℕ) (k : ℕ) → Words ws → bit (from_words ws) k ≡ bit (get_or ws (k / 64) 0) (k % 64)
 unfolding from_words
-row-bit [] k h = rw (zero-div (2 ^ k), zero-div (2 ^ (k % 64)))
+row-bit [] k h = rw (bit-zero k, bit-zero (k % 64))
 row-bit (w ∷ ws) k h = go (ltb k 64) refl (row-bit ws (k - 64) (tail w ws h))
   where
     go : (x : Bool) → ltb k 64 ≡ x → bit (from_words ws) (k - 64) ≡ bit (get_or ws ((k - 64) / 64) 0) ((k - 64) % 64)
@@ -74,19 +75,12 @@ row-bit (w ∷ ws) k h = go (ltb k 64) refl (row-bit ws (k - 64) (tail w ws h))
         let l : k < 64 = ltb-true _ _ e in
         let p : k / 64 ≡ 0 = omega arith in
         let q : k % 64 ≡ k = omega arith in
-        let m : digit (from_words ws * 2 ^ 64 + w) k ≡ digit w k =
-        sym (digit-mod (from_words ws * 2 ^ 64 + w) 64 k l) ∙ ap (λ (y : ℕ). digit y k) (low (from_words ws) 64 (h 0)) in
-        rw (p, q, m)
+        rw (p, q, bit_at_cat_low (from_words ws) 64 w k l)
     go false e ih =
         let l : 64 ≤ k = ltb-false _ _ e in
         let p : k / 64 ≡ suc ((k - 64) / 64) = omega arith in
         let q : k % 64 ≡ (k - 64) % 64 = omega arith in
-        let t : k ≡ 64 + (k - 64) = omega arith in
-        let m : digit (from_words ws * 2 ^ 64 + w) k ≡ digit (from_words ws) (k - 64) =
-        ap (λ (y : ℕ). digit (from_words ws * 2 ^ 64 + w) y) t
-        ∙ ap (λ (y : ℕ). y % 2)
-        (sym (shr-shr (from_words ws * 2 ^ 64 + w) 64 (k - 64)) ∙ ap (λ (y : ℕ). y / 2 ^ (k - 64)) (high (from_words ws) 64 (h 0))) in
-        rw (m, p, q) ih
+        rw (p, q, bit_at_cat_high (from_words ws) 64 w k (h 0) l) ih
 
 pub row-set : (ws : List ℕ) (j x : ℕ) → Words ws → j < length ws → x < 64 →
     set ws j (bit_or (get_or ws j 0) (2 ^ x)) ≡ to_words (length ws) (bit_or (from_words ws) (2 ^ (64 * j + x)))

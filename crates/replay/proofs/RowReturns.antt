@@ -1,7 +1,7 @@
 -- One law for each way out of the functions on a row and for each turn of their loops: what the code has there is what the definition says,
 -- for a row of m words. Assumes nothing.
-use mathlib.Core.Path.{◌≡◌, refl, sym, ap, ap₂, ◌∙◌}
-use mathlib.Core.List.{List, ◌++◌, append-nil}
+use mathlib.Core.Path.{◌≡◌, sym, ap, ap₂, ◌∙◌}
+use mathlib.Core.List.{List, [], ◌++◌, append-nil}
 use Prim.Native.Nat.{ℕ, suc, ◌+◌, ◌-◌, ◌*◌, ◌/◌, ◌%◌, ◌^◌, ◌≤◌, ◌<◌}
 use native.Mathlib.Nat.{mod-eq_of_lt, add-zero}
 use native.Mathlib.Numerals.{add-one}
@@ -9,24 +9,17 @@ use native.Mathlib.Omega.{arith}
 use mir.Syntax.{w64}
 use mir.Val.{Fits}
 use lib.Dec.{eqb}
-use lib.ListN.{length, get_or, set, take, drop, replicate, length-append, length-replicate, replicate-append-replicate}
-use lib.Seq.{take_all, take-suc, take-suc-set, take_at, drop-cons, drop-length, append_snoc, get_or-append-add}
+use lib.ListN.{length, get_or, set, take, drop, replicate, length-replicate, length-drop}
+use lib.Seq.{take_all, take-suc-set, take-append-add, drop-cons, append_snoc}
 use lib.Pow.{pow_pos, pow-lt}
 use lib.Bits.{bit_and, bit_or, and_mask}
-use Rattle.replay.specs.Row.{bit, from_words, to_words, word_count}
-use Rattle.replay.specs.Window.{window_length}
+use Rattle.std.proofs.lemmas.List.{drop-set-lt, drop_all, take-replicate}
+use borrow.Rule.Slice.PartMut.{put_mid}
+use Rattle.replay.specs.Row.{bit, from_words, to_words}
 use Rattle.replay.proofs.RowLaws.{Words, row-bit, row-set, carried, carried-is, lifted-is, shift-twice}
 
 pub fitted : (n : ℕ) → Fits w64 n → n < 2 ^ 64
 fitted n f = f.fits
-
--- `k & 63`
-pub low_bits : (k : ℕ) → bit_and k 63 < 64
-low_bits k = omega (arith, and_mask k 6)
-
-pub one-is : set (replicate (word_count window_length) 0) 0 1 ≡ to_words (word_count window_length) 1
-unfolding to_words
-one-is = refl
 
 module _ (ws : List ℕ) (k : ℕ) (h : Words ws) where
   pub has-bit-is : eqb (bit_and (get_or ws (k / 64) 0 / 2 ^ bit_and k 63) 1) 1 ≡ bit (from_words ws) k
@@ -43,59 +36,37 @@ module _ (ws : List ℕ) (k : ℕ) (h : Words ws) where
       rw (and_mask k 6, o, mod-eq_of_lt (pow-lt b), ← e) (row-set ws (k / 64) (k % 64) h a b ∙ rw q)
 
 -- ---- the shift by less than a word
-module _ (m d : ℕ) (out ws : List ℕ) where
-  pub carry-on : (c j : ℕ) (whole : List ℕ) → j < length out → j < length ws → take j out ++ carried d c (drop j ws) ≡ whole →
-      take (j + 1) (set out j (bit_or (get_or ws j 0 * 2 ^ d % 2 ^ 64) c)) ++ carried d (get_or ws j 0 / 2 ^ 1 / 2 ^ (63 - d)) (drop (j + 1) ws) ≡ whole
+module _ (d c j : ℕ) (ws : List ℕ) where
+  pub carry-on : (whole : List ℕ) → j < length ws → take j ws ++ carried d c (drop j ws) ≡ whole →
+      take (j + 1) (set ws j (bit_or (get_or ws j 0 * 2 ^ d % 2 ^ 64) c))
+      ++ carried d (get_or ws j 0 / 2 ^ 1 / 2 ^ (63 - d)) (drop (j + 1) (set ws j (bit_or (get_or ws j 0 * 2 ^ d % 2 ^ 64) c))) ≡ whole
   unfolding carried
-  carry-on c j whole l n e =
+  carry-on whole l e =
       let v = bit_or (get_or ws j 0 * 2 ^ d % 2 ^ 64) c in
       let rest = carried d (get_or ws j 0 / 2 ^ 1 / 2 ^ (63 - d)) (drop (suc j) ws) in
-      rw (add-one j, take-suc-set out j v l)
-      (append_snoc (take j out) v rest ∙ ap (λ (x : List ℕ). take j out ++ carried d c x) (sym (drop-cons ws j 0 n)) ∙ e)
+      rw (add-one j, take-suc-set ws j v l, drop-set-lt (suc j) ws j v (omega arith))
+      (append_snoc (take j ws) v rest ∙ ap (λ (x : List ℕ). take j ws ++ carried d c x) (sym (drop-cons ws j 0 l)) ∙ e)
 
-  pub carried-all : (c j : ℕ) → d < 64 → length out ≡ m → length ws ≡ m → Words ws → j ≤ m → m ≤ j →
-      take j out ++ carried d c (drop j ws) ≡ carried d 0 ws → out ≡ to_words m (from_words ws * 2 ^ d)
+  pub carried-all : (m : ℕ) (words : List ℕ) → d < 64 → length ws ≡ m → length words ≡ m → Words words → m ≤ j →
+      take j ws ++ carried d c (drop j ws) ≡ carried d 0 words → ws ≡ to_words m (from_words words * 2 ^ d)
   unfolding carried
-  carried-all c j l e f h a b g =
-      let n : length ws ≡ j = omega arith in
-      sym (append-nil out)
-      ∙ ap₂ (λ (x y : List ℕ). x ++ carried d c y)
-      (sym (take_all j out (omega arith))) (sym (drop-length ws) ∙ ap (λ (k : ℕ). drop k ws) n)
-      ∙ g ∙ carried-is d l 0 ws (pow_pos d) h
-      ∙ ap₂ to_words f (add-zero (from_words ws * 2 ^ d))
+  carried-all m words l e f h b g =
+      sym (append-nil ws)
+      ∙ ap₂ (λ (x y : List ℕ). x ++ carried d c y) (sym (take_all j ws (omega arith))) (sym (drop_all j ws (omega arith)))
+      ∙ g ∙ carried-is d l 0 words (pow_pos d) h
+      ∙ ap₂ to_words f (add-zero (from_words words * 2 ^ d))
 
--- ---- the shift by whole words
-module _ (m q : ℕ) (out ws : List ℕ) where
-  -- the row as it is to be, with what leaves it still behind
-  abbrev lifted : List ℕ
-  lifted = replicate q 0 ++ ws
-
-  pub lifted-none : q < m → take q (replicate {A = ℕ} m 0) ≡ take q lifted
-  lifted-none l =
-      let none : ℕ = 0 in
-      let e : q + (m - q) ≡ m = omega arith in
-      ap (λ (k : ℕ). take q (replicate k none)) (sym e)
-      ∙ ap (take q) (sym (replicate-append-replicate q (m - q) none))
-      ∙ take_at (replicate q none) (replicate (m - q) none) q (length-replicate q none)
-      ∙ sym (take_at (replicate q none) ws q (length-replicate q none))
-
-  pub lift-on : (j : ℕ) → q ≤ j → j < length out → j < length ws → take j out ≡ take j lifted →
-      take (j + 1) (set out j (get_or ws (j - q) 0)) ≡ take (j + 1) lifted
-  lift-on j a l n e =
-      let front : List ℕ = replicate q 0 in
-      let s : length front + (j - q) ≡ j = omega (arith, length-replicate {A = ℕ} q 0) in
-      let g : get_or lifted j 0 ≡ get_or ws (j - q) 0 =
-      ap (λ (k : ℕ). get_or lifted k 0) (sym s) ∙ get_or-append-add front ws (j - q) 0 in
-      rw (add-one j, take-suc-set out j (get_or ws (j - q) 0) l, e) (rw (← g) (sym (take-suc lifted j 0 (omega (arith, long)))))
-    where
-      long : length lifted ≡ q + length ws
-      long = length-append (replicate q 0) ws ∙ rw (length-replicate {A = ℕ} q 0)
-
-  pub lifted-all : (j : ℕ) → length out ≡ m → length ws ≡ m → Words ws → j ≤ m → m ≤ j → take j out ≡ take j lifted →
-      out ≡ to_words m (from_words ws * 2 ^ (64 * q))
-  lifted-all j e f h a b g =
-      let s : j ≡ m = omega arith in
-      sym (take_all m out (omega arith)) ∙ (rw s at g) ∙ lifted-is q m ws h (omega arith)
+-- ---- the shift by whole words: the lowest are 0, and the words come above them as far as there is room
+pub lifted-all : (m q : ℕ) (ws up : List ℕ) → length ws ≡ m → Words ws → q < m → up ≡ take (m - q) ws →
+    put_mid q (m - q) (replicate m 0) up ≡ to_words m (from_words ws * 2 ^ (64 * q))
+lifted-all m q ws up e h l d =
+    let none : ℕ = 0 in
+    let rest : drop (m - q) (drop q (replicate m none)) ≡ [] =
+    drop_all (m - q) (drop q (replicate m none)) (simp (length-drop, length-replicate) (omega arith)) in
+    let n : length (replicate q none) + (m - q) ≡ m = omega (arith, length-replicate q none) in
+    let front : take m (replicate q none ++ ws) ≡ replicate q none ++ take (m - q) ws =
+    rw n at (take-append-add (replicate q none) ws (m - q)) in
+    rw (take-replicate q m none (omega arith), rest, append-nil, d) (sym front ∙ lifted-is q m ws h (omega arith))
 
 -- ---- the shift by any distance
 pub shifted-is : (m d : ℕ) (ws whole out : List ℕ) → whole ≡ to_words m (from_words ws * 2 ^ (64 * (d / 64))) →

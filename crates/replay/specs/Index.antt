@@ -1,21 +1,14 @@
 -- The index of a packet: RFC 3711, 3.3.1, and 01, 'Arithmetic of the index', which settles what the RFC leaves open (equal distances) and
 -- differs from it in one point (an index never wraps, at either end). H is a receiver's highest index. Assumes nothing.
-use Rattle.std.specs.Prelude.{ℕ, suc, ◌+◌, ◌-◌, ◌*◌, ◌/◌, ◌%◌, ◌^◌, ◌≤◌, ◌<◌, ◌≡◌, Bool, false, cond, ◌||◌, eqb, leb, ltb, ℤ, pos, negsuc, ◌+ℤ◌}
+use Rattle.std.specs.Prelude.{ℕ, suc, ◌+◌, ◌-◌, ◌*◌, ◌/◌, ◌%◌, ◌^◌, ◌≤◌, ◌<◌, ◌≡◌, Bool, false, cond, ◌||◌, eqb, leb, ltb, ℤ, pos, negsuc, ◌+ℤ◌, Option, None, Some, Result, Ok, Err}
 use Rattle.std.proofs.Math.IntN.{sub_ℕ}
-use Rattle.replay.specs.declared.index.Highest.{Highest}
-use Rattle.replay.specs.declared.index.Highest.TheVariants.{Absent, At}
-use Rattle.replay.specs.declared.index.Estimate.{Estimate}
-use Rattle.replay.specs.declared.index.Estimate.TheVariants as estimated
-use Rattle.replay.specs.declared.index.LastSent.{LastSent}
-use Rattle.replay.specs.declared.index.LastSent.TheVariants as last
-use Rattle.replay.specs.declared.index.NextIndex.{NextIndex}
-use Rattle.replay.specs.declared.index.NextIndex.TheVariants as next
-use Rattle.replay.specs.declared.index.NextControlIndex.{NextControlIndex}
-use Rattle.replay.specs.declared.index.NextControlIndex.TheVariants as control
+use Rattle.replay.specs.declared.index.OutOfRange.{OutOfRange}
+use Rattle.replay.specs.declared.index.OutOfRange.TheVariants as out_of_range
+use Rattle.replay.specs.declared.index.NoIndex.{NoIndex}
+use Rattle.replay.specs.declared.index.NoIndex.TheVariants as no_index
 use Rattle.replay.specs.declared.index.MediaSender.{MediaSender}
-use Rattle.replay.specs.declared.index.MediaStep.{MediaStep}
 use Rattle.replay.specs.declared.index.ControlSender.{ControlSender}
-use Rattle.replay.specs.declared.index.ControlStep.{ControlStep}
+use Rattle.replay.specs.declared.index.Step.{Step}
 
 -- i = 2^16 * ROC + SEQ, and back
 abbrev pub index_of : (rollover number : ℕ) → ℕ
@@ -62,57 +55,56 @@ pub record IsDistance (h number : ℕ) (d : ℤ) : Type 0 where
   pub leads : Leads h d number
 
 -- the index of a packet, H + d, which may lie below 0. With no H, the rollover counter that set-up gave and the number make it
-abbrev pub estimate : (rollover number : ℕ) → Highest → ℤ
-estimate rollover number Absent = pos (index_of rollover number)
-estimate rollover number (At h) = pos h +ℤ distance h number
+abbrev pub estimate : (rollover number : ℕ) → Option ℕ → ℤ
+estimate rollover number None = pos (index_of rollover number)
+estimate rollover number (Some h) = pos h +ℤ distance h number
 
 -- below 0 it is OLD, above 2^48 - 1 it is SPENT
-abbrev pub placed : ℤ → Estimate
-placed (pos i) = cond (ltb max_media_index i) estimated.Spent (estimated.Index i)
-placed (negsuc j) = estimated.Old
+abbrev pub placed : ℤ → Result ℕ OutOfRange
+placed (pos i) = cond (ltb max_media_index i) (Err out_of_range.Spent) (Ok i)
+placed (negsuc j) = Err out_of_range.Old
 
 -- an index within reach: at most n - 1 behind H or 32,767 ahead of it; with no H, one that carries the rollover counter of set-up
-abbrev pub Near : (n rollover : ℕ) → Highest → (index : ℕ) → Type 0
-Near n rollover Absent i = rollover_of i ≡ rollover
-Near n rollover (At h) i = (h < i + n) × (i ≤ h + 32767)
+abbrev pub Near : (n rollover : ℕ) → Option ℕ → (index : ℕ) → Type 0
+Near n rollover None i = rollover_of i ≡ rollover
+Near n rollover (Some h) i = (h < i + n) × (i ≤ h + 32767)
 
 -- ---- sending media
 -- the index of the first packet is its number, that of a later one the last index plus the step
-abbrev pub next_index : LastSent → (number : ℕ) → ℕ
-next_index last.Nothing number = number
-next_index (last.At i) number = i + ahead i number
+abbrev pub next_index : Option ℕ → (number : ℕ) → ℕ
+next_index None number = number
+next_index (Some i) number = i + ahead i number
 
 -- the step is 0, or 32,768 and above
-abbrev pub out_of_order : LastSent → (number : ℕ) → Bool
-out_of_order last.Nothing number = false
-out_of_order (last.At i) number = eqb (ahead i number) 0 || leb 32768 (ahead i number)
+abbrev pub out_of_order : Option ℕ → (number : ℕ) → Bool
+out_of_order None number = false
+out_of_order (Some i) number = eqb (ahead i number) 0 || leb 32768 (ahead i number)
 
 -- ORDER, SPENT or the index
-abbrev pub next_media : LastSent → (number : ℕ) → NextIndex
+abbrev pub next_media : Option ℕ → (number : ℕ) → Result ℕ NoIndex
 next_media l number =
-    cond (out_of_order l number) next.Order
-    (cond (ltb max_media_index (next_index l number)) next.Spent
-    (next.Index (next_index l number)))
+    cond (out_of_order l number) (Err no_index.Order)
+    (cond (ltb max_media_index (next_index l number)) (Err no_index.Spent)
+    (Ok (next_index l number)))
 
 abbrev pub media_start : MediaSender
-media_start = record { last = last.Nothing }
+media_start = record { last = None }
 
 abbrev pub media_after : (index : ℕ) → MediaSender
-media_after i = record { last = last.At i }
+media_after i = record { last = Some i }
 
 -- and beside it the state once the packet is sent. A refusal leaves the state as it is
-abbrev pub media_next : NextIndex → MediaSender → MediaSender
-media_next (next.Index i) s = media_after i
-media_next next.Order s = s
-media_next next.Spent s = s
+abbrev pub media_next : Result ℕ NoIndex → MediaSender → MediaSender
+media_next (Ok i) s = media_after i
+media_next (Err e) s = s
 
-abbrev pub media_step : MediaSender → (number : ℕ) → MediaStep
+abbrev pub media_step : MediaSender → (number : ℕ) → Step MediaSender
 media_step s number = record { index = next_media s.last number; next = media_next (next_media s.last number) s }
 
 -- ---- control: the sender's first index is 0, each next one is one more, and after 2^31 packets it is SPENT. A receiver reads the index,
 -- of 31 bits, from the packet: nothing is estimated and none is SPENT
-abbrev pub next_control : (sent : ℕ) → NextControlIndex
-next_control sent = cond (leb max_control_packets sent) control.Spent (control.Index sent)
+abbrev pub next_control : (sent : ℕ) → Result ℕ NoIndex
+next_control sent = cond (leb max_control_packets sent) (Err no_index.Spent) (Ok sent)
 
 abbrev pub control_start : ControlSender
 control_start = record { sent = 0 }
@@ -121,9 +113,9 @@ control_start = record { sent = 0 }
 abbrev pub control_after : ControlSender → ControlSender
 control_after s = record { sent = s.sent + 1 }
 
-abbrev pub control_next : NextControlIndex → ControlSender → ControlSender
-control_next (control.Index i) s = control_after s
-control_next control.Spent s = s
+abbrev pub control_next : Result ℕ NoIndex → ControlSender → ControlSender
+control_next (Ok i) s = control_after s
+control_next (Err e) s = s
 
-abbrev pub control_step : ControlSender → ControlStep
+abbrev pub control_step : ControlSender → Step ControlSender
 control_step s = record { index = next_control s.sent; next = control_next (next_control s.sent) s }

@@ -9,48 +9,25 @@ pub const MAX_MEDIA_INDEX: u64 = 0xffff_ffff_ffff;
 // How many control packets a sender may send, 2^31: at indices 0 to 2^31 - 1.
 pub const MAX_CONTROL_PACKETS: u64 = 0x8000_0000;
 
-// A receiver's highest index H: the largest that it accepted or was set up with, if there is one.
-#[derive(Clone, Copy)]
-pub enum Highest {
-    Absent,
-    At(u64),
-}
-
-// Where a received media packet lies: at an index, below 0 (refused as OLD), or above 2^48 - 1 (refused as SPENT).
-#[derive(Clone, Copy)]
-pub enum Estimate {
-    Index(u64),
+// Where a received media packet lies that has no index: below 0 (refused as OLD), or above 2^48 - 1 (refused as SPENT).
+#[derive(Clone, Copy, Debug, PartialEq, Eq)]
+pub enum OutOfRange {
     Old,
     Spent,
 }
 
-// The media index that a sender used last, if it sent anything.
-#[derive(Clone, Copy)]
-pub enum LastSent {
-    Nothing,
-    At(u64),
-}
-
-// What a sender does with its next packet: it uses this index; or refuses, as ORDER (the number is out of order) or as SPENT (there is
-// no index left).
-#[derive(Clone, Copy)]
-pub enum NextIndex {
-    Index(u64),
+// Why a sender has no index for its next packet: the number is out of order (refused as ORDER), or no index is left (refused as SPENT).
+// Control packets have no order to break.
+#[derive(Clone, Copy, Debug, PartialEq, Eq)]
+pub enum NoIndex {
     Order,
     Spent,
 }
 
-// The same of control, whose packets have no order to break.
-#[derive(Clone, Copy)]
-pub enum NextControlIndex {
-    Index(u64),
-    Spent,
-}
-
-// A sender's media state: the index used last.
+// A sender's media state: the index used last, if it sent anything.
 #[derive(Clone, Copy)]
 pub struct MediaSender {
-    pub last: LastSent,
+    pub last: Option<u64>,
 }
 
 // A sender's control state: how many packets it sent.
@@ -59,18 +36,11 @@ pub struct ControlSender {
     pub sent: u64,
 }
 
-// What a sender does with its next media packet, and beside it its state once the packet is sent.
+// The index of a sender's next packet, and beside it the sender's state once the packet is sent.
 #[derive(Clone, Copy)]
-pub struct MediaStep {
-    pub index: NextIndex,
-    pub next: MediaSender,
-}
-
-// The same of control.
-#[derive(Clone, Copy)]
-pub struct ControlStep {
-    pub index: NextControlIndex,
-    pub next: ControlSender,
+pub struct Step<S> {
+    pub index: Result<u64, NoIndex>,
+    pub next: S,
 }
 
 // The index with this rollover counter and sequence number.
@@ -87,32 +57,29 @@ fn ahead(index: u64, number: u16) -> u64
     ((number as u64) + (0x1_0000 - (index & 0xffff))) & 0xffff
 }
 
-impl Highest {
-    // Where a media packet with this number lies, for a receiver that was set up with this rollover counter. Equal distances count as
-    // ahead, and nothing is added that could pass the largest index.
-    pub fn estimate(self, rollover: u32, number: u16) -> Estimate
-        ensures { result ≡ placed (estimate_of rollover number self) }
-    {
-        let Highest::At(h) = self else {
-            return Estimate::Index(index_of(rollover, number));
-        };
-        let on = ahead(h, number);
-        if on <= 0x8000 {
-            if h > MAX_MEDIA_INDEX - on {
-                return Estimate::Spent;
-            }
-            return Estimate::Index(h + on);
+// The index of a media packet with this number, for a receiver that was set up with this rollover counter and whose highest index, the
+// largest that it accepted or was set up with, is `highest`. Equal distances count as ahead, and nothing is added that could pass the
+// largest index.
+pub fn estimate(highest: Option<u64>, rollover: u32, number: u16) -> Result<u64, OutOfRange>
+    ensures { result ≡ placed (estimate_of rollover number highest) }
+{
+    let Some(h) = highest else {
+        return Ok(index_of(rollover, number));
+    };
+    let on = ahead(h, number);
+    if on <= 0x8000 {
+        if h > MAX_MEDIA_INDEX - on {
+            return Err(OutOfRange::Spent);
         }
-        let back = 0x1_0000 - on;
-        if h < back {
-            return Estimate::Old;
-        }
-        let index = h - back;
-        if index > MAX_MEDIA_INDEX {
-            return Estimate::Spent;
-        }
-        Estimate::Index(index)
+        return Ok(h + on);
     }
+    let Some(index) = h.checked_sub(0x1_0000 - on) else {
+        return Err(OutOfRange::Old);
+    };
+    if index > MAX_MEDIA_INDEX {
+        return Err(OutOfRange::Spent);
+    }
+    Ok(index)
 }
 
 impl MediaSender {
@@ -120,47 +87,36 @@ impl MediaSender {
     pub fn new() -> Self
         ensures { result ≡ media_start }
     {
-        MediaSender {
-            last: LastSent::Nothing,
-        }
+        MediaSender { last: None }
     }
 
     // The index of the next packet, which has this number.
-    fn next_index(self, number: u16) -> NextIndex
+    fn next_index(self, number: u16) -> Result<u64, NoIndex>
         ensures { result ≡ next_media self.last number }
     {
-        let sent = self.last;
-        let LastSent::At(last) = sent else {
-            return NextIndex::Index(number as u64);
+        let Some(last) = self.last else {
+            return Ok(number as u64);
         };
         let step = ahead(last, number);
-        if step == 0 {
-            return NextIndex::Order;
-        }
-        if step >= 0x8000 {
-            return NextIndex::Order;
+        if step == 0 || step >= 0x8000 {
+            return Err(NoIndex::Order);
         }
         if last > MAX_MEDIA_INDEX - step {
-            return NextIndex::Spent;
+            return Err(NoIndex::Spent);
         }
-        NextIndex::Index(last + step)
+        Ok(last + step)
     }
 
     // The same, with the state once it is sent. A refusal leaves the state as it is.
-    pub fn step(self, number: u16) -> MediaStep
+    pub fn step(self, number: u16) -> Step<MediaSender>
         ensures { result ≡ media_step self number }
     {
         let index = self.next_index(number);
-        match index {
-            NextIndex::Index(i) => MediaStep {
-                index,
-                next: MediaSender {
-                    last: LastSent::At(i),
-                },
-            },
-            NextIndex::Order => MediaStep { index, next: self },
-            NextIndex::Spent => MediaStep { index, next: self },
-        }
+        let next = match index {
+            Ok(i) => MediaSender { last: Some(i) },
+            Err(_) => self,
+        };
+        Step { index, next }
     }
 }
 
@@ -173,17 +129,17 @@ impl ControlSender {
     }
 
     // The index of the next packet, with the state once it is sent.
-    pub fn step(self) -> ControlStep
+    pub fn step(self) -> Step<ControlSender>
         ensures { result ≡ control_step self }
     {
         if self.sent >= MAX_CONTROL_PACKETS {
-            return ControlStep {
-                index: NextControlIndex::Spent,
+            return Step {
+                index: Err(NoIndex::Spent),
                 next: self,
             };
         }
-        ControlStep {
-            index: NextControlIndex::Index(self.sent),
+        Step {
+            index: Ok(self.sent),
             next: ControlSender {
                 sent: self.sent + 1,
             },

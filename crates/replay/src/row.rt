@@ -1,4 +1,5 @@
-// A row of words as one number, the lowest word first: a bit tested, a bit set, all bits shifted up.
+// A row of words as one number, the lowest word first: a bit tested, a bit set, all bits shifted up. The row is a bare array and no struct
+// with methods: `Window` keeps the array, as its C struct does, and would make a struct of it and take it apart again at each call.
 ghost use Rattle.std.specs.Prelude.{◌≡◌, ◌*◌, ◌^◌, ◌<◌};
 ghost use Rattle.std.specs.Int.Bits.{bit_or};
 ghost use Rattle.replay.specs.Row.{bit, from_words, to_words, word_count};
@@ -8,6 +9,7 @@ ghost use Rattle.replay.specs.Window.{window_length};
 pub const WORDS: usize = 16;
 
 // The number 1.
+#[tactic(auto, unfolding(crate::specs::Row::to_words))]
 pub fn one() -> [u64; WORDS]
     ensures { result ≡ to_words (word_count window_length) 1 }
 {
@@ -31,8 +33,7 @@ pub fn with_bit(words: [u64; WORDS], k: u64) -> [u64; WORDS]
     ensures { result ≡ to_words (word_count window_length) (bit_or (from_words words) (2 ^ k)) }
 {
     let mut out = words;
-    let j = (k >> 6) as usize;
-    out[j] = out[j] | (1 << (k & 63));
+    out[(k >> 6) as usize] |= 1 << (k & 63);
     out
 }
 
@@ -42,14 +43,12 @@ fn shifted_by_bits(words: [u64; WORDS], distance: u64) -> [u64; WORDS]
     requires { distance < 64 }
     ensures { result ≡ to_words (word_count window_length) (from_words words * 2 ^ distance) }
 {
-    let mut out = [0u64; WORDS];
+    let mut out = words;
     let mut carry = 0u64;
-    let mut j = 0;
-    while j < WORDS {
-        let word = words[j];
-        out[j] = (word << distance) | carry;
-        carry = (word >> 1) >> (63 - distance);
-        j += 1;
+    for word in &mut out {
+        let low = *word;
+        *word = (low << distance) | carry;
+        carry = (low >> 1) >> (63 - distance);
     }
     out
 }
@@ -60,11 +59,7 @@ fn shifted_by_words(words: [u64; WORDS], count: usize) -> [u64; WORDS]
     ensures { result ≡ to_words (word_count window_length) (from_words words * 2 ^ (64 * count)) }
 {
     let mut out = [0u64; WORDS];
-    let mut j = count;
-    while j < WORDS {
-        out[j] = words[j - count];
-        j += 1;
-    }
+    out[count..].copy_from_slice(&words[..WORDS - count]);
     out
 }
 

@@ -1,31 +1,29 @@
 // The replay window (RFC 3711, 3.3.2): which of the last 1,024 indices up to the highest were accepted. Media and control have one each.
 ghost use Rattle.std.specs.Prelude.{◌≡◌};
-ghost use Rattle.replay.specs.declared.index.Highest.TheVariants.{Absent};
 ghost use Rattle.replay.specs.Window.{window_length, window_start, window_verdict, window_mark, window_marked};
 
-use crate::index::Highest;
 use crate::row;
 use crate::row::WORDS;
 
-// What a receiver makes of an index: it is new; or refused as OLD, too far behind the highest; or refused as REPEAT, accepted already.
-#[derive(Clone, Copy)]
-pub enum Verdict {
-    New,
+// Why a receiver takes no packet at an index: too far behind the highest (refused as OLD), or accepted already (refused as REPEAT).
+#[derive(Clone, Copy, Debug, PartialEq, Eq)]
+pub enum Replayed {
     Old,
     Repeat,
 }
 
-// Bit k of the row tells whether the index k below the highest was accepted. Without a highest index the bits say nothing.
+// The highest index, which is the largest that was accepted or given at set-up, if there is one; bit k of the row tells whether the index
+// k below it was accepted. Without a highest index the bits say nothing.
 #[derive(Clone, Copy)]
 pub struct Window {
-    pub highest: Highest,
+    pub highest: Option<u64>,
     pub words: [u64; WORDS],
 }
 
 // The verdict on an index, and beside it the window with the index accepted.
 #[derive(Clone, Copy)]
 pub struct Marked {
-    pub verdict: Verdict,
+    pub verdict: Result<(), Replayed>,
     pub next: Window,
 }
 
@@ -35,16 +33,13 @@ impl Window {
 
     // No highest index and nothing accepted.
     pub fn empty() -> Self
-        ensures { result ≡ window_start Absent }
+        ensures { result ≡ window_start None }
     {
-        Window {
-            highest: Highest::Absent,
-            words: [0; WORDS],
-        }
+        Window::starting(None)
     }
 
     // The highest index that set-up gives, with nothing accepted yet.
-    pub fn starting(highest: Highest) -> Self
+    pub fn starting(highest: Option<u64>) -> Self
         ensures { result ≡ window_start highest }
     {
         Window {
@@ -53,52 +48,48 @@ impl Window {
         }
     }
 
-    // What the receiver makes of this index.
-    pub fn verdict(self, index: u64) -> Verdict
+    // Whether this index is new to the receiver.
+    pub fn verdict(self, index: u64) -> Result<(), Replayed>
         ensures { result ≡ window_verdict window_length self index }
     {
-        let highest = self.highest;
-        let Highest::At(h) = highest else {
-            return Verdict::New;
+        let Some(h) = self.highest else {
+            return Ok(());
         };
         if h < index {
-            return Verdict::New;
+            return Ok(());
         }
         let back = h - index;
         if back >= Window::LENGTH {
-            return Verdict::Old;
+            return Err(Replayed::Old);
         }
-        let words = self.words;
-        if row::has_bit(words, back) {
-            return Verdict::Repeat;
+        if row::has_bit(self.words, back) {
+            return Err(Replayed::Repeat);
         }
-        Verdict::New
+        Ok(())
     }
 
     // The window with this index accepted.
     fn accepting(self, index: u64) -> Window
         ensures { result ≡ window_mark window_length self index }
     {
-        let highest = self.highest;
-        let Highest::At(h) = highest else {
+        let Some(h) = self.highest else {
             return Window {
-                highest: Highest::At(index),
+                highest: Some(index),
                 words: row::one(),
             };
         };
-        let words = self.words;
         if h < index {
             let rise = index - h;
             let is_far = rise >= Window::LENGTH;
             if is_far {
                 return Window {
-                    highest: Highest::At(index),
+                    highest: Some(index),
                     words: row::one(),
                 };
             }
-            let risen = row::shifted(words, rise);
+            let risen = row::shifted(self.words, rise);
             return Window {
-                highest: Highest::At(index),
+                highest: Some(index),
                 words: row::with_bit(risen, 0),
             };
         }
@@ -107,8 +98,8 @@ impl Window {
             return self;
         }
         Window {
-            highest: Highest::At(h),
-            words: row::with_bit(words, back),
+            highest: Some(h),
+            words: row::with_bit(self.words, back),
         }
     }
 

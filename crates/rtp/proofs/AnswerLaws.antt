@@ -1,17 +1,8 @@
--- Laws of tests and of answers that a test picks. Assumes nothing.
-use mathlib.Core.Path.{◌≡◌, refl}
-use mathlib.Core.Bool.{Bool, true, false, cond, ◌&&◌}
+-- A law of an answer that a test picks: where there is none, the test failed. (`cond_some` of the library is the other half.)
+-- Assumes nothing.
+use Rattle.std.specs.Prelude.{◌≡◌, Bool, true, false, cond, None, Some}
+use mathlib.Core.Path.{refl}
 
-pub both : (a b : Bool) → (a && b) ≡ true → (a ≡ true) × (b ≡ true)
-both true b e = (refl, e)
-both false b e = (e, cc)
-
--- ---- an answer r that a test b picks: one other than `no` tells that b holds, one other than `yes` that it doesn't
-module _ {A : Type 0} (yes no : A) {r : A} where
-  pub told-true : (b : Bool) → r ≡ cond b yes no → (r ≡ no → ⊥) → (b ≡ true) × (r ≡ yes)
-  told-true true e d = (refl, e)
-  told-true false e d = absurd (d e)
-
-  pub told-false : (b : Bool) → r ≡ cond b yes no → (r ≡ yes → ⊥) → b ≡ false
-  told-false true e d = absurd (d e)
-  told-false false e d = refl
+pub cond_none : {A : Type 0} (b : Bool) (x : A) → cond b (Some x) None ≡ None → b ≡ false
+cond_none true x e = cc
+cond_none false x e = refl

@@ -1,11 +1,10 @@
 -- Laws of the index word of SRTCP: where it stands, and what it says. Assumes nothing.
-use mathlib.Core.Path.{◌≡◌, refl, ap, ◌∙◌}
+use mathlib.Core.Path.{◌≡◌, refl, ◌∙◌}
 use mathlib.Core.Bool.{Bool, true, false, cond}
 use mathlib.Core.List.{List, ◌++◌}
 use Prim.Native.Nat.{ℕ, ◌+◌, ◌-◌, ◌/◌, ◌%◌, ◌^◌, ◌<◌, ◌≤◌}
 use native.Mathlib.Omega.{arith}
 use native.Mathlib.Nat.{mod-eq_of_lt}
-use lib.Bits.{bit_and, bit_or, and_mask, mask_lt, or_shifted_r}
 use lib.Dec.{eqb}
 use lib.ListN.{length, take, drop, length-append, length-take, length-drop, take-append-drop}
 use lib.Seq.{take-append_seam, drop-append_seam, take_all}
@@ -69,12 +68,3 @@ word-whole w h = go (eqb (w / 2 ^ 31) 1) refl
 pub index-most : (w : ℕ) → srtcp_index w ≤ 2 ^ 31 - 1
 unfolding srtcp_index
 index-most w = omega arith
-
--- ---- the word made by masks
-pub masked-set : (e : Bool) (i : ℕ) → e ≡ true → bit_or (bit_and i (2 ^ 31 - 1)) (2 ^ 31) ≡ index_word e i
-unfolding index_word
-masked-set e i h = rw h (or_shifted_r 1 31 (bit_and i (2 ^ 31 - 1)) (mask_lt i 31) ∙ ap (λ (n : ℕ). 2 ^ 31 + n) (and_mask i 31))
-
-pub masked-clear : (e : Bool) (i : ℕ) → e ≡ false → bit_and i (2 ^ 31 - 1) ≡ index_word e i
-unfolding index_word
-masked-clear e i h = rw h (and_mask i 31 ∙ omega arith)

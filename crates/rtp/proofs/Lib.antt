@@ -6,5 +6,3 @@ pub mod TrailerLaws
 pub mod IndexWordLaws
 pub mod SrtpLaws
 pub mod SrtcpLaws
-mod PlainReading
-mod ProtectedReading

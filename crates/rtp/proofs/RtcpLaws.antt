@@ -8,17 +8,19 @@ use lib.Dec.{eqb, leb}
 use lib.ListN.{length, length-append, length-drop, take-append-drop}
 use lib.Seq.{length-take-le}
 use borrow.Author.Tests.{leb-true}
+use Rattle.std.specs.Prelude.{Option, None, Some}
+use Rattle.std.proofs.lemmas.Bool.{and_parts}
+use Rattle.std.proofs.lemmas.Option.{cond_some}
 use Rattle.octets.specs.BigEndian.{Bytes}
 use Rattle.rtp.specs.Rtp.{version}
 use Rattle.rtp.specs.Rtcp.{is_rtcp, rtcp_ssrc, rtcp_header, rtcp_payload, rtcp_header_of}
 use Rattle.rtp.specs.declared.RtcpHeader.{RtcpHeader}
-use Rattle.rtp.specs.declared.RtcpHeader.TheVariants.{Rtcp, NotRtcp}
-use Rattle.rtp.proofs.AnswerLaws.{both, told-true, told-false}
+use Rattle.rtp.proofs.AnswerLaws.{cond_none}
 use Rattle.rtp.proofs.FieldLaws.{byte-front, field-front, field_lt}
 
 pub rtcp-least : (p : List ℕ) → is_rtcp p ≡ true → 8 ≤ length p
 unfolding is_rtcp
-rtcp-least p r = leb-true _ _ (both (leb 8 (length p)) (eqb (length p % 4) 0 && eqb (version p) 2) r).0
+rtcp-least p r = leb-true _ _ (and_parts (leb 8 (length p)) (eqb (length p % 4) 0 && eqb (version p) 2) r).0
 
 -- ---- two packets of one length that begin with h
 module _ (h x y : List ℕ) (e : 8 ≤ length h) (n : length x ≡ length y) where
@@ -55,20 +57,20 @@ unfolding rtcp_ssrc
 rtcp-ssrc-lt p b = field_lt 4 4 p b
 
 -- ---- what the reader answers, and what its answer tells
-pub rtcp-answer : (p : List ℕ) → is_rtcp p ≡ true → rtcp_header_of p ≡ Rtcp (rtcp_ssrc p)
+pub rtcp-answer : (p : List ℕ) → is_rtcp p ≡ true → rtcp_header_of p ≡ Some (record { ssrc = rtcp_ssrc p })
 unfolding rtcp_header_of
 rtcp-answer p r = rw r
 
-pub record RtcpRead (p : List ℕ) (s : ℕ) : Type 0 where
+pub record RtcpRead (p : List ℕ) (h : RtcpHeader) : Type 0 where
   pub rtcp : is_rtcp p ≡ true
-  pub ssrc : s ≡ rtcp_ssrc p
+  pub ssrc : h.ssrc ≡ rtcp_ssrc p
 
-pub rtcp-read : {r : RtcpHeader} {p : List ℕ} {s : ℕ} → r ≡ rtcp_header_of p → r ≡ Rtcp s → RtcpRead p s
+pub rtcp-read : {r : Option RtcpHeader} {p : List ℕ} {h : RtcpHeader} → r ≡ rtcp_header_of p → r ≡ Some h → RtcpRead p h
 unfolding rtcp_header_of
-rtcp-read {r} {p} e h =
-    let t = told-true (Rtcp (rtcp_ssrc p)) NotRtcp (is_rtcp p) e (λ d. let z : ◌≡◌ {A = ℕ} 0 1 = cc in omega arith) in
+rtcp-read {r} {p} {h} e f =
+    let t = cond_some (is_rtcp p) _ h (sym e ∙ f) in
     record { rtcp = t.0; ssrc = cc }
 
-pub rtcp-unread : {r : RtcpHeader} (p : List ℕ) → r ≡ rtcp_header_of p → r ≡ NotRtcp → is_rtcp p ≡ false
+pub rtcp-unread : {r : Option RtcpHeader} (p : List ℕ) → r ≡ rtcp_header_of p → r ≡ None → is_rtcp p ≡ false
 unfolding rtcp_header_of
-rtcp-unread p e h = told-false (Rtcp (rtcp_ssrc p)) NotRtcp (is_rtcp p) e (λ d. let z : ◌≡◌ {A = ℕ} 0 1 = cc in omega arith)
+rtcp-unread p e f = cond_none (is_rtcp p) _ (sym e ∙ f)

@@ -9,12 +9,14 @@ use lib.Dec.{eqb, leb}
 use lib.ListN.{length, take, drop, get_or, length-append, take-append-drop}
 use lib.Seq.{length-take-le}
 use borrow.Author.Tests.{le-leb, leb-true}
+use Rattle.std.specs.Prelude.{Option, None, Some}
+use Rattle.std.proofs.lemmas.Bool.{and_parts}
+use Rattle.std.proofs.lemmas.Option.{cond_some}
 use Rattle.octets.specs.BigEndian.{Bytes, from_bytes}
 use Rattle.rtp.specs.Rtp.{version, csrc_end, extension_bit, extension_words, header_length}
 use Rattle.rtp.specs.Rtp.{is_rtp, sequence_number, rtp_ssrc, header, payload, header_of}
 use Rattle.rtp.specs.declared.Header.{Header}
-use Rattle.rtp.specs.declared.Header.TheVariants.{Rtp, NotRtp}
-use Rattle.rtp.proofs.AnswerLaws.{both, told-true, told-false}
+use Rattle.rtp.proofs.AnswerLaws.{cond_none}
 use Rattle.rtp.proofs.FieldLaws.{byte-front, field-front, field_lt}
 
 pub header-least : (p : List ℕ) → 12 ≤ header_length p
@@ -23,7 +25,7 @@ header-least p = omega arith
 
 pub rtp-fits : (p : List ℕ) → is_rtp p ≡ true → header_length p ≤ length p
 unfolding is_rtp
-rtp-fits p r = leb-true _ _ (both (eqb (version p) 2) (leb (header_length p) (length p)) r).1
+rtp-fits p r = leb-true _ _ (and_parts (eqb (version p) 2) (leb (header_length p) (length p)) r).1
 
 -- ---- two packets that begin with h, which is the first one's whole header
 module _ (h x y : List ℕ) (e : header_length (h ++ x) ≡ length h) where
@@ -48,7 +50,7 @@ module _ (h x y : List ℕ) (e : header_length (h ++ x) ≡ length h) where
   pub rtp-front : is_rtp (h ++ x) ≡ true → is_rtp (h ++ y) ≡ true
   unfolding is_rtp
   rtp-front r =
-      let v = both (eqb (version (h ++ x)) 2) (leb (header_length (h ++ x)) (length (h ++ x))) r in
+      let v = and_parts (eqb (version (h ++ x)) 2) (leb (header_length (h ++ x)) (length (h ++ x))) r in
       rw (first, header-front, le-leb (length h) (length (h ++ y)) (omega (arith, length-append h y)), v.0)
 
   pub number-front : sequence_number (h ++ y) ≡ sequence_number (h ++ x)
@@ -99,25 +101,23 @@ unfolding rtp_ssrc
 ssrc-lt p b = field_lt 4 8 p b
 
 -- ---- what the reader answers, and what its answer tells
-pub rtp-answer : (p : List ℕ) → is_rtp p ≡ true → header_of p ≡ Rtp (header_length p) (sequence_number p) (rtp_ssrc p)
+pub rtp-answer : (p : List ℕ) → is_rtp p ≡ true →
+    header_of p ≡ Some (record { len = header_length p; sequence_number = sequence_number p; ssrc = rtp_ssrc p })
 unfolding header_of
 rtp-answer p r = rw r
 
-pub record RtpRead (p : List ℕ) (n q s : ℕ) : Type 0 where
+pub record RtpRead (p : List ℕ) (h : Header) : Type 0 where
   pub rtp : is_rtp p ≡ true
-  pub size : n ≡ header_length p
-  pub number : q ≡ sequence_number p
-  pub ssrc : s ≡ rtp_ssrc p
+  pub size : h.len ≡ header_length p
+  pub number : h.sequence_number ≡ sequence_number p
+  pub ssrc : h.ssrc ≡ rtp_ssrc p
 
-answer : List ℕ → Header
-answer p = Rtp (header_length p) (sequence_number p) (rtp_ssrc p)
-
-pub rtp-read : {r : Header} {p : List ℕ} {n q s : ℕ} → r ≡ header_of p → r ≡ Rtp n q s → RtpRead p n q s
-unfolding header_of answer
-rtp-read {r} {p} e h =
-    let t = told-true (answer p) NotRtp (is_rtp p) e (λ d. let z : ◌≡◌ {A = ℕ} 0 1 = cc in omega arith) in
+pub rtp-read : {r : Option Header} {p : List ℕ} {h : Header} → r ≡ header_of p → r ≡ Some h → RtpRead p h
+unfolding header_of
+rtp-read {r} {p} {h} e f =
+    let t = cond_some (is_rtp p) _ h (sym e ∙ f) in
     record { rtp = t.0; size = cc; number = cc; ssrc = cc }
 
-pub rtp-unread : {r : Header} (p : List ℕ) → r ≡ header_of p → r ≡ NotRtp → is_rtp p ≡ false
-unfolding header_of answer
-rtp-unread p e h = told-false (answer p) NotRtp (is_rtp p) e (λ d. let z : ◌≡◌ {A = ℕ} 0 1 = cc in omega arith)
+pub rtp-unread : {r : Option Header} (p : List ℕ) → r ≡ header_of p → r ≡ None → is_rtp p ≡ false
+unfolding header_of
+rtp-unread p e f = cond_none (is_rtp p) _ (sym e ∙ f)

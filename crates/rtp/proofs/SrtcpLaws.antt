@@ -1,58 +1,55 @@
 -- Laws of whole SRTCP packets: what the reader's answer tells of the bytes, and what is read of a packet that a sender made.
 -- Assumes nothing.
-use mathlib.Core.Path.{◌≡◌, refl, ap, ◌∙◌}
+use mathlib.Core.Path.{◌≡◌, refl, sym, ap, ◌∙◌}
 use mathlib.Core.Bool.{Bool, true, false}
 use mathlib.Core.List.{List, ◌++◌}
 use Prim.Native.Nat.{ℕ, ◌+◌, ◌-◌, ◌^◌, ◌≤◌}
 use native.Mathlib.Omega.{arith}
 use lib.ListN.{length, take, drop, length-append}
 use lib.Seq.{take-take, length-take-le}
+use Rattle.std.specs.Prelude.{Option, None, Some}
+use Rattle.std.proofs.lemmas.Option.{cond_some}
 use Rattle.octets.specs.BigEndian.{to_bytes}
 use Rattle.octets.proofs.BigEndianLaws.{length-to_bytes}
 use Rattle.rtp.specs.Rtcp.{is_rtcp, rtcp_ssrc, rtcp_header, rtcp_payload}
 use Rattle.rtp.specs.Protected.{authenticated_portion, rtcp_portion, word_of, e_flag, srtcp_index, index_word, srtcp_layout_of}
 use Rattle.rtp.specs.declared.SrtcpLayout.{SrtcpLayout}
-use Rattle.rtp.specs.declared.SrtcpLayout.TheVariants.{Srtcp, NotSrtcp}
-use Rattle.rtp.proofs.AnswerLaws.{told-true, told-false}
+use Rattle.rtp.proofs.AnswerLaws.{cond_none}
 use Rattle.rtp.proofs.FieldLaws.{drop-take}
 use Rattle.rtp.proofs.RtcpLaws.{RtcpRead, rtcp-least, same-rtcp-front, rtcp-read, rtcp-answer}
 use Rattle.rtp.proofs.TrailerLaws.{mki-at, tag_at, portion-parts, portion-length, Trailing, trailing}
 use Rattle.rtp.proofs.IndexWordLaws.{before-word, before-word-length, word-is, word_lt, word-flag, word-index}
 
--- ---- what the answer tells: RTCP up to w, the index word from there to k, MKI and tag at k and j
-pub record SrtcpRead (m t : ℕ) (b : List ℕ) (s : ℕ) (x : Bool) (i w k j : ℕ) : Type 0 where
-  pub head : RtcpRead (rtcp_portion (authenticated_portion m t b)) s
-  pub flag : x ≡ e_flag (word_of (authenticated_portion m t b))
-  pub index : i ≡ srtcp_index (word_of (authenticated_portion m t b))
-  pub least : 8 ≤ w
-  pub word : w + 4 ≡ k
-  pub trailer : Trailing m t b k j
-  pub rtcp-part : rtcp_portion (authenticated_portion m t b) ≡ take w b
+-- ---- what the answer tells: RTCP up to the index word, the word from there to the MKI, MKI and tag
+pub record SrtcpRead (m t : ℕ) (b : List ℕ) (l : SrtcpLayout) : Type 0 where
+  pub head : RtcpRead (rtcp_portion (authenticated_portion m t b)) l.header
+  pub flag : l.encrypted ≡ e_flag (word_of (authenticated_portion m t b))
+  pub index : l.index ≡ srtcp_index (word_of (authenticated_portion m t b))
+  pub least : 8 ≤ l.word
+  pub word : l.word + 4 ≡ l.mki
+  pub trailer : Trailing m t b l.mki l.tag
+  pub rtcp-part : rtcp_portion (authenticated_portion m t b) ≡ take l.word b
   pub header-part : rtcp_header (rtcp_portion (authenticated_portion m t b)) ≡ take 8 b
-  pub payload-part : rtcp_payload (rtcp_portion (authenticated_portion m t b)) ≡ take (w - 8) (drop 8 b)
+  pub payload-part : rtcp_payload (rtcp_portion (authenticated_portion m t b)) ≡ take (l.word - 8) (drop 8 b)
 
 rtcp-take : (a : List ℕ) (n : ℕ) → length a - 4 ≡ n → rtcp_portion a ≡ take n a
 unfolding rtcp_portion
 rtcp-take a n e = rw e
 
-answer : (m t : ℕ) → List ℕ → SrtcpLayout
-answer m t b =
-    let a = authenticated_portion m t b in
-    Srtcp (rtcp_ssrc (rtcp_portion a)) (e_flag (word_of a)) (srtcp_index (word_of a)) (length a - 4) (length b - (m + t)) (length b - t)
-
-pub srtcp-read : {r : SrtcpLayout} {m t : ℕ} {b : List ℕ} {s : ℕ} {x : Bool} {i w k j : ℕ} →
-    r ≡ srtcp_layout_of m t b → r ≡ Srtcp s x i w k j → SrtcpRead m t b s x i w k j
-unfolding srtcp_layout_of answer
-srtcp-read {r} {m} {t} {b} {s} {x} {i} {w} {k} {j} e h =
+pub srtcp-read : {r : Option SrtcpLayout} {m t : ℕ} {b : List ℕ} {l : SrtcpLayout} →
+    r ≡ srtcp_layout_of m t b → r ≡ Some l → SrtcpRead m t b l
+unfolding srtcp_layout_of
+srtcp-read {r} {m} {t} {b} {l} e f =
     let a : List ℕ = authenticated_portion m t b in
-    let d = told-true (answer m t b) NotSrtcp (is_rtcp (rtcp_portion a)) e (λ x. let z : ◌≡◌ {A = ℕ} 0 1 = cc in omega arith) in
-    let ew : length a - 4 ≡ w = cc in
-    let ek : length b - (m + t) ≡ k = cc in
-    let ej : length b - t ≡ j = cc in
-    let l : 8 ≤ length a - 4 = omega (arith, rtcp-least (rtcp_portion a) d.0, before-word-length a) in
+    let d = cond_some (is_rtcp (rtcp_portion a)) _ l (sym e ∙ f) in
+    let eh = ap (λ (x : SrtcpLayout). x.header) d.1 in
+    let ew : length a - 4 ≡ l.word = cc in
+    let ek : length b - (m + t) ≡ l.mki = cc in
+    let ej : length b - t ≡ l.tag = cc in
+    let n : 8 ≤ length a - 4 = omega (arith, rtcp-least (rtcp_portion a) d.0, before-word-length a) in
     let la : length a ≡ length b - (m + t) = portion-length m t b in
-    let y : Trailing m t b k j = rw (ek, ej) at (trailing m t b (omega arith)) in
-    let p : rtcp_portion a ≡ take w b = rtcp-take a w ew ∙ ap (take w) y.portion-part ∙ take-take w k b (omega arith) in
+    let y : Trailing m t b l.mki l.tag = rw (ek, ej) at (trailing m t b (omega arith)) in
+    let p : rtcp_portion a ≡ take l.word b = rtcp-take a l.word ew ∙ ap (take l.word) y.portion-part ∙ take-take l.word l.mki b (omega arith) in
     record {
       head = record { rtcp = d.0; ssrc = cc };
       flag = cc;
@@ -61,21 +58,26 @@ srtcp-read {r} {m} {t} {b} {s} {x} {i} {w} {k} {j} e h =
       word = omega arith;
       trailer = y;
       rtcp-part = p;
-      header-part = rw p (take-take 8 w b (omega arith));
-      payload-part = rw p (drop-take 8 w b);
+      header-part = rw p (take-take 8 l.word b (omega arith));
+      payload-part = rw p (drop-take 8 l.word b);
     }
 
-pub srtcp-unread : {r : SrtcpLayout} (m t : ℕ) (b : List ℕ) → r ≡ srtcp_layout_of m t b → r ≡ NotSrtcp →
+pub srtcp-unread : {r : Option SrtcpLayout} (m t : ℕ) (b : List ℕ) → r ≡ srtcp_layout_of m t b → r ≡ None →
     is_rtcp (rtcp_portion (authenticated_portion m t b)) ≡ false
-unfolding srtcp_layout_of answer
-srtcp-unread m t b e h =
-    let a : List ℕ = authenticated_portion m t b in
-    told-false (answer m t b) NotSrtcp (is_rtcp (rtcp_portion a)) e (λ x. let z : ◌≡◌ {A = ℕ} 0 1 = cc in omega arith)
+unfolding srtcp_layout_of
+srtcp-unread m t b e f = cond_none (is_rtcp (rtcp_portion (authenticated_portion m t b))) _ (sym e ∙ f)
 
 -- ---- what the receiver reads is what the sender read: of p's 8 clear bytes, a payload y, the word of e and i, MKI and tag
 pub srtcp-made : (p y m t : List ℕ) (e : Bool) (i : ℕ) → is_rtcp p ≡ true → length y ≡ length p - 8 → i ≤ 2 ^ 31 - 1 →
     srtcp_layout_of (length m) (length t) (rtcp_header p ++ y ++ to_bytes 4 (index_word e i) ++ m ++ t)
-    ≡ Srtcp (rtcp_ssrc p) e i (length p) (length p + 4) (length p + 4 + length m)
+    ≡ Some (record {
+      header = record { ssrc = rtcp_ssrc p };
+      encrypted = e;
+      index = i;
+      word = length p;
+      mki = length p + 4;
+      tag = length p + 4 + length m;
+    })
 unfolding srtcp_layout_of
 srtcp-made p y m t e i r ly h =
     let c : List ℕ = rtcp_header p ++ y in

@@ -1,10 +1,9 @@
 -- The head of an RTCP packet (RFC 3550, 6.1 and 6.4.1): at least 8 bytes, a multiple of 4, version 2, and the SSRC of its sender
 -- in bytes 4 to 7. Nothing else is examined. Assumes nothing.
-use Rattle.std.specs.Prelude.{ℕ, ◌%◌, Bool, cond, ◌&&◌, List, eqb, leb, length, take, drop}
+use Rattle.std.specs.Prelude.{ℕ, ◌%◌, Bool, cond, ◌&&◌, List, Option, None, Some, eqb, leb, length, take, drop}
 use Rattle.octets.specs.BigEndian.{from_bytes}
 use Rattle.rtp.specs.Rtp.{version}
 use Rattle.rtp.specs.declared.RtcpHeader.{RtcpHeader}
-use Rattle.rtp.specs.declared.RtcpHeader.TheVariants.{Rtcp, NotRtcp}
 
 unfoldable pub is_rtcp : List ℕ → Bool
 is_rtcp p = leb 8 (length p) && (eqb (length p % 4) 0 && eqb (version p) 2)
@@ -20,5 +19,5 @@ abbrev pub rtcp_payload : List ℕ → List ℕ
 rtcp_payload p = drop 8 p
 
 -- what the reader answers
-unfoldable pub rtcp_header_of : List ℕ → RtcpHeader
-rtcp_header_of p = cond (is_rtcp p) (Rtcp (rtcp_ssrc p)) NotRtcp
+unfoldable pub rtcp_header_of : List ℕ → Option RtcpHeader
+rtcp_header_of p = cond (is_rtcp p) (Some (record { ssrc = rtcp_ssrc p })) None

@@ -1,9 +1,8 @@
 -- The header of an RTP packet (RFC 3550, 5.1 and 5.3.1), read from its bytes p. Where p ends early, a number is that of the
 -- bytes there are; `is_rtp` has the whole header fit, so no such number is ever answered. Assumes nothing.
-use Rattle.std.specs.Prelude.{ℕ, ◌+◌, ◌*◌, ◌/◌, ◌%◌, ◌^◌, Bool, cond, ◌&&◌, List, eqb, leb, length, get_or, take, drop}
+use Rattle.std.specs.Prelude.{ℕ, ◌+◌, ◌*◌, ◌/◌, ◌%◌, ◌^◌, Bool, cond, ◌&&◌, List, Option, None, Some, eqb, leb, length, get_or, take, drop}
 use Rattle.octets.specs.BigEndian.{from_bytes}
 use Rattle.rtp.specs.declared.Header.{Header}
-use Rattle.rtp.specs.declared.Header.TheVariants.{Rtp, NotRtp}
 
 -- ---- the first byte (5.1): V, X and CC
 -- the top two bits
@@ -51,5 +50,5 @@ abbrev pub payload : List ℕ → List ℕ
 payload p = drop (header_length p) p
 
 -- what the reader answers
-unfoldable pub header_of : List ℕ → Header
-header_of p = cond (is_rtp p) (Rtp (header_length p) (sequence_number p) (rtp_ssrc p)) NotRtp
+unfoldable pub header_of : List ℕ → Option Header
+header_of p = cond (is_rtp p) (Some (record { len = header_length p; sequence_number = sequence_number p; ssrc = rtp_ssrc p })) None

@@ -1,22 +1,17 @@
 -- One law for each way out of the functions that put a packet under the cipher. Assumes nothing.
-use mathlib.Core.Bool.{Bool, true, false, not}
 use mathlib.Core.List.{List, ◌++◌, append_assoc}
 use mathlib.Core.Path.{◌≡◌, sym, ap, ap₂, ◌∙◌}
 use Prim.Native.Nat.{ℕ, ◌+◌, ◌-◌, ◌≤◌}
 use native.Mathlib.Omega.{arith}
-use borrow.Author.Tests.{not-true, not-false}
-use lib.ListN.{length, take, drop, length-drop, take-append-drop}
+use lib.ListN.{length, take, drop, length-drop}
 use lib.Seq.{take_at, take-append-le, drop-append-le, drop-drop}
 use Rattle.octets.proofs.BufferLaws.{drop-over}
 use Rattle.octets.specs.Buffer.{over}
-use Rattle.rtp.specs.Rtp.{header_length}
 use Rattle.transforms.proofs.CipherLaws.{ciphered-from-start}
 use Rattle.transforms.specs.Ciphers.{ciphered, ciphered_from}
 use Rattle.transforms.specs.declared.Cipher.{Cipher}
 use Rattle.transforms.specs.declared.SessionKeys.{SessionKeys}
-use Rattle.session.specs.Packets.{ciphered_media, ciphered_control}
 use Rattle.session.specs.Steps.{ciphered_behind}
-use Rattle.session.specs.declared.Session.{Session}
 use Rattle.session.specs.declared.Settings.{Settings}
 use Rattle.session.proofs.SessionLaws.{length-behind}
 
@@ -44,17 +39,3 @@ module _ (s : Settings) (k : SessionKeys) (i n : ℕ) (p d d' : List ℕ) where
       let rest : drop (length p - n) (drop n d') ≡ drop (length (take n p ++ y)) d =
       drop-drop (length p - n) n d' ∙ ap (λ (x : ℕ). drop x d') q ∙ ap (drop (length p)) e ∙ drop-over p d ∙ ap (λ (x : ℕ). drop x d) (sym m) in
       ap₂ ◌++◌ clear (ap₂ ◌++◌ text rest) ∙ sym (append_assoc (take n p) y (drop (length (take n p ++ y)) d))
-
--- ---- Session::cipher_media, Session::cipher_control
-module _ (s : Session) (p : List ℕ) (i : ℕ) (d d' : List ℕ) where
-  pub media-behind : (n : ℕ) → n ≡ header_length p → d' ≡ over (ciphered_behind s.settings s.media i n p) d → d' ≡ over (ciphered_media s p i) d
-  unfolding ciphered_media
-  media-behind n e f = f ∙ rw e
-
-  pub control-behind : (e : Bool) → not e ≡ false → d' ≡ over (ciphered_behind s.settings s.control i 8 p) d → d' ≡ over (ciphered_control s e p i) d
-  unfolding ciphered_control
-  control-behind e h f = f ∙ rw (not-false e h)
-
-  pub control-clear : (e : Bool) → not e ≡ true → d' ≡ over p d → d' ≡ over (ciphered_control s e p i) d
-  unfolding ciphered_control
-  control-clear e h f = f ∙ rw (not-true e h, take-append-drop 8 p)

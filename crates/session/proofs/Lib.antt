@@ -1,5 +1,3 @@
 pub mod SessionLaws
-pub mod SetUpLaws
-mod SetUpReturns
 mod CipherReturns
 mod PacketReturns

@@ -2,11 +2,11 @@
 use mathlib.Core.Bool.{Bool}
 use mathlib.Core.List.{List, ◌++◌, append_assoc}
 use mathlib.Core.Path.{◌≡◌, refl, sym, ap, ap₂, ◌∙◌}
-use Prim.Native.Nat.{ℕ, ◌+◌, ◌≤◌}
+use Prim.Native.Nat.{ℕ, ◌+◌, ◌-◌, ◌≤◌}
 use native.Mathlib.Omega.{arith}
-use lib.ListN.{length, take, length-append}
+use lib.ListN.{length, take, drop, length-append}
 use Rattle.octets.proofs.BigEndianLaws.{length-to_bytes}
-use Rattle.octets.proofs.BufferLaws.{take-over, over_at-over, over_at-append}
+use Rattle.octets.proofs.BufferLaws.{take-over, over_at-over, over_at-append, over_at-part}
 use Rattle.octets.specs.BigEndian.{to_bytes}
 use Rattle.octets.specs.Buffer.{over, over_at}
 use Rattle.rtp.specs.Protected.{index_word}
@@ -18,12 +18,19 @@ use Rattle.session.specs.Packets.{integrity_of, tag_length, mki_bytes, ciphered_
 use Rattle.session.specs.declared.Session.{Session}
 use Rattle.session.proofs.SessionLaws.{mki-length, length-ciphered_media, length-ciphered_control}
 
--- ---- put_both
-pub both-put : (at n m : ℕ) (x y d e f : List ℕ) → at + length x + length y ≤ length d
-    → n ≡ at + length x → e ≡ over_at at x d → m ≡ n + length y → f ≡ over_at n y e
-    → (m ≡ at + length x + length y) × (f ≡ over_at at (x ++ y) d)
-both-put at n m x y d e f h en ee em ef =
-    (omega arith, ef ∙ ap₂ (λ (k : ℕ) (l : List ℕ). over_at k y l) en ee ∙ over_at-append at (length x) x y d refl (omega arith))
+-- ---- put_both: x written over d from at on, y behind it
+module _ (at : ℕ) (x y d d' : List ℕ) where
+  abbrev written : List ℕ
+  written = take at d ++ (d' ++ drop (length d - at) (drop at d))
+
+  pub both-put : at + length x + length y ≤ length d → d' ≡ over x (take (length d - at) (drop at d)) → (w : List ℕ) (n : ℕ)
+      → n ≡ at + length x → w ≡ over y (take (length written - n) (drop n written))
+      → take n written ++ (w ++ drop (length written - n) (drop n written)) ≡ over_at at (x ++ y) d
+  both-put h e w n en f =
+      let a : written ≡ over_at at x d = rw e (over_at-part at (length d - at) x d refl) in
+      rw f (over_at-part n (length written - n) y written refl)
+      ∙ ap₂ (λ (k : ℕ) (l : List ℕ). over_at k y l) en a
+      ∙ over_at-append at (length x) x y d refl (omega arith)
 
 -- ---- Settings::finish: what stands before the MKI, the MKI and the tag
 finished : (a m t d e f : List ℕ) (n r : ℕ) → n ≡ length a → e ≡ over a d → f ≡ over_at n (m ++ t) e → r ≡ n + length m + length t

@@ -8,7 +8,7 @@ use borrow.Author.Tests.{leb-true, eqb-true}
 use lib.Dec.{eqb, leb}
 use lib.ListN.{length, take, drop, length-append, take-append-drop}
 use lib.Seq.{length-take-le}
-use Rattle.rtp.proofs.AnswerLaws.{both}
+use Rattle.std.proofs.lemmas.Bool.{and_parts}
 use Rattle.rtp.specs.Rtp.{header_length}
 use Rattle.transforms.proofs.CipherLaws.{length-ciphered}
 use Rattle.transforms.specs.Ciphers.{ciphered}
@@ -33,11 +33,11 @@ tag-within HmacSha1 n h = go (eqb n 4) refl h
     go : (b : Bool) → eqb n 4 ≡ b → (b || eqb n 10) ≡ true → (4 ≤ n) × (n ≤ 14)
     go true e k = let z = eqb-true n 4 e in (omega arith, omega arith)
     go false e k = let z = eqb-true n 10 k in (omega arith, omega arith)
-tag-within (Rccm2 rate) n h = let z = eqb-true n 14 (both (leb 1 rate && leb rate 65535) (eqb n 14) h).1 in (omega arith, omega arith)
+tag-within (Rccm2 rate) n h = let z = eqb-true n 14 (and_parts (leb 1 rate && leb rate 65535) (eqb n 14) h).1 in (omega arith, omega arith)
 
 pub settings-listed : (s : Settings) → settings_listed s ≡ true → Listed s
 settings-listed s h =
-    let b = both (leb s.mki_len 4) (tag_listed s.profile.integrity s.profile.tag_len) h in
+    let b = and_parts (leb s.mki_len 4) (tag_listed s.profile.integrity s.profile.tag_len) h in
     let t = tag-within s.profile.integrity s.profile.tag_len b.1 in
     record { mki = leb-true s.mki_len 4 b.0; least = t.0; most = t.1 }
 

@@ -9,6 +9,7 @@ use Rattle.transforms.specs.KeyDerivation.{media_label, control_label, session_k
 use Rattle.session.specs.declared.Profile.{Profile}
 use Rattle.session.specs.declared.Settings.{Settings}
 use Rattle.session.specs.declared.Session.{Session}
+use Rattle.session.specs.declared.SetUp as declared
 use Rattle.session.specs.Packets.{srtp, srtcp}
 
 -- what set-up is given, sender and receiver alike
@@ -18,6 +19,17 @@ pub record SetUp : Type 0 where
   pub master_salt : List ℕ
   pub mki : List ℕ
   pub profile : Profile
+
+-- the same of the struct, whose parts lie behind references
+abbrev pub given : declared.SetUp → SetUp
+given u =
+    record {
+      ssrc = u.ssrc;
+      master_key = u.master_key.now;
+      master_salt = u.master_salt.now;
+      mki = u.mki.now;
+      profile = u.profile;
+    }
 
 abbrev pub settings_of : SetUp → Settings
 settings_of u =

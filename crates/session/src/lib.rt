@@ -3,7 +3,7 @@
 #![tactic(auto)]
 
 mod packets;
-mod setup;
+mod sessions;
 
 use transforms::{Cipher, Integrity, SessionKeys};
 
@@ -34,7 +34,18 @@ impl Profile {
     pub const MAX_PACKET_LEN: usize = 2048;
 }
 
-// What set-up checks, kept with the context. The MKI is the first `mki_len` bytes of `mki`.
+// What set-up is given, sender and receiver alike.
+#[derive(Clone, Copy)]
+pub struct SetUp<'a> {
+    pub ssrc: u32,
+    pub master_key: &'a [u8],
+    pub master_salt: &'a [u8],
+    pub mki: &'a [u8],
+    pub profile: Profile,
+}
+
+// What set-up checks, kept with the context. The MKI is the first `mki_len` bytes of `mki`: a context is plain memory, without heap.
+// No invariant holds here: a context value may have any numbers, and row 1 of the table of refusals answers it.
 #[derive(Clone, Copy)]
 pub struct Settings {
     pub profile: Profile,

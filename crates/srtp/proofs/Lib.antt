@@ -1,8 +1,8 @@
 pub mod RowLaws
-mod SetUpReturns
-mod SenderRows
+mod ListedLaws
+mod SenderLaws
 mod SenderReturns
 mod ReceiverLaws
+mod ControlRows
+mod MediaRows
 mod ReceiverReturns
-mod ReceiveMediaRows
-mod ReceiveControlRows

@@ -1,80 +1,48 @@
--- Laws of the steps of receiving: groups of rows one behind the other, what a step told, and the parts of a packet that the code takes.
--- Assumes nothing.
-use mathlib.Core.Bool.{Bool, true, false, cond, not}
+-- Laws of the steps of receiving: groups of rows one behind the other, and the parts of a packet that the code takes. Assumes nothing.
+use mathlib.Core.Bool.{Bool, true, false, cond}
 use mathlib.Core.List.{List, [], ◌∷◌, ◌++◌}
 use mathlib.Core.Path.{◌≡◌, refl, sym, ap, ◌∙◌}
-use Prim.Native.Nat.{ℕ, ◌+◌, ◌-◌, ◌≤◌}
+use Prim.Native.Nat.{ℕ, ◌+◌, ◌-◌}
 use native.Mathlib.Omega.{arith}
 use lib.ListN.{length, take, drop, length-drop}
 use lib.Seq.{length-take-le, take_all, take-take}
-use Rattle.rtp.proofs.AnswerLaws.{both}
-use Rattle.rtp.proofs.TrailerLaws.{Trailing, portion-length}
+use Rattle.std.specs.Prelude.{None, Some, Result, Ok, Err, is_some}
+use Rattle.rtp.proofs.TrailerLaws.{portion-length}
 use Rattle.rtp.specs.Protected.{authenticated_portion, rtcp_portion}
-use Rattle.srtp.specs.Contexts.{receiver_listed}
-use Rattle.session.specs.Packets.{mki_bytes}
-use Rattle.srtp.specs.ReceiverSteps.{judged_as}
-use Rattle.srtp.specs.Refusals.{Row, row, Judgement, passes, stops, judged}
-use Rattle.session.specs.SetUps.{settings_listed}
-use Rattle.srtp.specs.declared.Receiver.{Receiver}
+use Rattle.transforms.proofs.RccLaws.{take-integrity_tag}
+use Rattle.transforms.proofs.TagLaws.{take-control_tag}
+use Rattle.transforms.specs.Tag.{control_tag}
+use Rattle.transforms.specs.declared.SessionKeys.{SessionKeys}
+use Rattle.srtp.specs.Refusals.{Row, stops, judged, judged_as}
 use Rattle.srtp.specs.declared.Refusal.{Refusal}
-use Rattle.srtp.specs.declared.receiving.Judged.{Judged}
-use Rattle.srtp.specs.declared.receiving.Judged.TheVariants.{Passes, Stops}
-use Rattle.session.proofs.SessionLaws.{Listed, settings-listed, mki-length}
 
--- ---- row 1
-pub receiver-listed : (c : Receiver) → receiver_listed c ≡ true → Listed c.session.settings
-unfolding receiver_listed
-receiver-listed c h = settings-listed c.session.settings (both (settings_listed c.session.settings) _ h).0
+-- ---- a step's answer, and where it passes that of the steps behind it
+abbrev pub and_then : {T : Type 0} → Result Unit Refusal → Result T Refusal → Result T Refusal
+and_then (Ok u) r = r
+and_then (Err n) r = Err n
 
-pub mki-of : (c : Receiver) → receiver_listed c ≡ true → length c.session.settings.mki ≡ 4 → length (mki_bytes c.session) ≡ c.session.settings.mki_len
-mki-of c h = mki-length c.session (receiver-listed c h).mki
-
--- ---- rows one behind the other: the judgement of the first ones, and where it passes that of the others
-abbrev pub and_then : Judgement → Judgement → Judgement
-and_then passes j = j
-and_then (stops n) j = stops n
-
-pub judged-append : (xs ys : List Row) → judged (xs ++ ys) ≡ and_then (judged xs) (judged ys)
-judged-append [] ys = refl
-judged-append (x ∷ xs) ys = go x.holds (judged-append xs ys)
+pub judged-append : {T : Type 0} (x : T) (xs ys : List Row) →
+    judged_as x (judged (xs ++ ys)) ≡ and_then (judged_as tt (judged xs)) (judged_as x (judged ys))
+judged-append x [] ys = refl
+judged-append x (r ∷ xs) ys = go r.holds (judged-append x xs ys)
   where
-    go : (t : Bool) → judged (xs ++ ys) ≡ and_then (judged xs) (judged ys) →
-        cond t (stops x.gives) (judged (xs ++ ys)) ≡ and_then (cond t (stops x.gives) (judged xs)) (judged ys)
+    go : (t : Bool) → judged_as x (judged (xs ++ ys)) ≡ and_then (judged_as tt (judged xs)) (judged_as x (judged ys)) →
+        judged_as x (cond t (stops r.gives) (judged (xs ++ ys)))
+        ≡ and_then (judged_as tt (cond t (stops r.gives) (judged xs))) (judged_as x (judged ys))
     go true ih = refl
     go false ih = ih
 
--- ---- what a step told of its rows, and of those behind them
-module _ (xs ys : List Row) {v : Judged} (e : v ≡ judged_as (judged xs)) where
-  told : (j : Judgement) → v ≡ judged_as j → judged xs ≡ j
-  told j h = go (judged xs) j (sym e ∙ h)
-    where
-      go : (i j : Judgement) → judged_as i ≡ judged_as j → i ≡ j
-      go passes passes h = refl
-      go passes (stops n) h = let z : ◌≡◌ {A = ℕ} 0 1 = cc in absurd (omega arith)
-      go (stops m) passes h = let z : ◌≡◌ {A = ℕ} 0 1 = cc in absurd (omega arith)
-      go (stops m) (stops n) h = let k : m ≡ n = cc in ap stops k
+-- ---- of a tag's twenty bytes a packet carries the first
+pub control-tag : (k : SessionKeys) (m : List ℕ) → take 10 (control_tag 20 k m) ≡ control_tag 10 k m
+control-tag k m = take-control_tag 10 k m 20 (omega arith)
 
-  pub told-stops : (n : Refusal) → v ≡ Stops n → judged (xs ++ ys) ≡ stops n
-  told-stops n h = judged-append xs ys ∙ ap (λ (j : Judgement). and_then j (judged ys)) (told (stops n) h)
-
-  pub told-passes : v ≡ Passes → judged (xs ++ ys) ≡ judged ys
-  told-passes h = judged-append xs ys ∙ ap (λ (j : Judgement). and_then j (judged ys)) (told passes h)
-
--- a test as the last row, from the test's answer g
-pub last_row : (n : Refusal) {g t : Bool} → g ≡ t → (b : Bool) → not g ≡ b → judged (row (not t) n ∷ []) ≡ cond b (stops n) passes
-last_row n e b h = ap (λ (x : Bool). cond x (stops n) passes) (ap not (sym e) ∙ h)
+pub ruleset tags = (control-tag, take-integrity_tag)
 
 -- ---- parts of a packet
--- MKI and tag lie within it, at k and j
-module _ {m t : ℕ} {b : List ℕ} {k j : ℕ} (w : Trailing m t b k j) where
-  pub mki-start : k ≤ j
-  mki-start = omega (arith, w.mki)
-
-  pub tag-start : j ≤ length b
-  tag-start = omega (arith, w.tag)
-
-  pub front_length : length (take k b) ≡ k
-  front_length = length-take-le k b (omega (arith, mki-start, tag-start))
+-- a reader that answers has found what it asks for
+pub some_where : {A : Type 0} (b : Bool) (x : A) → is_some (cond b (Some x) None) ≡ true → b ≡ true
+some_where true x e = refl
+some_where false x e = cc
 
 -- from a place to the end
 pub to_end : (j : ℕ) (b : List ℕ) → take (length b - j) (drop j b) ≡ drop j b

@@ -1,103 +1,135 @@
--- One law for each way out of the receiver's steps: the answer there is the definition's, by the answers that led there. Assumes nothing.
-use mathlib.Core.Bool.{Bool, true, false, not}
-use mathlib.Core.List.{List, [], ◌∷◌}
-use mathlib.Core.Path.{◌≡◌, refl, sym, ap, ◌∙◌}
-use Prim.Native.Nat.{ℕ, ◌≤◌, ◌<◌}
+-- What is known where a receiver's rows pass, and what the call does by its verdict. Assumes nothing.
+use mathlib.Core.Bool.{Bool, true, false}
+use mathlib.Core.List.{List}
+use mathlib.Core.Path.{◌≡◌, refl, sym}
+use Prim.Native.Nat.{ℕ, ◌^◌, ◌≤◌, ◌<◌}
 use native.Mathlib.Omega.{arith}
-use borrow.Author.Tests.{lt-ltb, le-ltb, eq-eqb, ne_eqb, not-true, not-false}
-use lib.Dec.{leb}
+use borrow.Author.Tests.{ltb-false, not-false}
+use lib.IntN.{ℤ, pos, negsuc}
 use lib.ListN.{length, take}
-use Rattle.octets.specs.Buffer.{over}
-use Rattle.octets.specs.Equal.{same}
-use Rattle.replay.specs.Index.{max_media_index, max_control_index}
-use Rattle.replay.specs.Window.{window_length, window_verdict}
-use Rattle.replay.specs.declared.index.Highest.{Highest}
-use Rattle.replay.specs.declared.index.Highest.TheVariants as highest
-use Rattle.replay.specs.declared.window.Verdict.{Verdict}
-use Rattle.replay.specs.declared.window.Verdict.TheVariants as verdict
-use Rattle.replay.specs.declared.window.Window.{Window}
-use Rattle.transforms.proofs.TagLaws.{take-control_tag}
-use Rattle.transforms.proofs.RccLaws.{take-integrity_tag}
-use Rattle.transforms.specs.Tag.{control_tag}
-use Rattle.transforms.specs.Rcc.{integrity_tag}
-use Rattle.transforms.specs.declared.Integrity.{Integrity}
-use Rattle.transforms.specs.declared.SessionKeys.{SessionKeys}
-use Rattle.srtp.specs.Calls.{is_old, is_repeat}
-use Rattle.srtp.specs.Contexts.{highest_at_most, receiver_listed}
-use Rattle.srtp.specs.Outcomes.{Outcome, refused, done, ReceiverShows}
-use Rattle.srtp.specs.ReceiverSteps.{judged_as, address_rows, replay_rows}
-use Rattle.srtp.specs.Refusals.{row, judged}
-use Rattle.session.specs.SetUps.{settings_listed}
-use Rattle.srtp.specs.declared.Answer.TheVariants.{Sent, Refused}
+use Rattle.std.specs.Prelude.{Result, Ok, Err, is_ok}
+use Rattle.replay.specs.Index.{max_media_index}
+use Rattle.rtp.proofs.IndexWordLaws.{before-word-length, index-most}
+use Rattle.rtp.proofs.RtcpLaws.{rtcp-least}
+use Rattle.rtp.proofs.RtpLaws.{rtp-fits}
+use Rattle.rtp.proofs.TrailerLaws.{portion-length}
+use Rattle.rtp.specs.Protected.{rtcp_portion, word_of, e_flag}
+use Rattle.rtp.specs.Rtcp.{is_rtcp}
+use Rattle.rtp.specs.Rtp.{is_rtp, header_length}
+use Rattle.session.specs.Packets.{control_tag_length, mki_bytes, tag_length}
+use Rattle.session.proofs.SessionLaws.{length-ciphered_media, length-ciphered_control}
+use Rattle.srtp.specs.Calls.{too_high, natural, media_portion, media_index, receive_media_rows, media_opened, receive_media, control_received, control_index, receive_control_rows, control_opened, receive_control}
+use Rattle.srtp.specs.Outcomes.{Outcome, refused, settled}
+use Rattle.srtp.specs.ReceiverSteps.{media_as, control_as, media_verdict, control_verdict}
+use Rattle.srtp.specs.Refusals.{Judgement, passes, stops, judged}
 use Rattle.srtp.specs.declared.Receiver.{Receiver}
 use Rattle.srtp.specs.declared.Refusal.{Refusal}
-use Rattle.srtp.specs.declared.Refusal.TheVariants.{Stream, Room, Key, Old, Repeat}
-use Rattle.session.specs.declared.Settings.{Settings}
-use Rattle.srtp.specs.declared.receiving.Judged.{Judged}
-use Rattle.srtp.specs.declared.receiving.Judged.TheVariants.{Passes, Stops}
+use Rattle.srtp.specs.declared.receiving.ControlOpening.{ControlOpening}
+use Rattle.srtp.specs.declared.receiving.MediaOpening.{MediaOpening}
+use Rattle.srtp.proofs.ReceiverLaws.{portion-take, rtcp-take}
+use Rattle.srtp.proofs.RowLaws.{none-holds, told-found}
 
--- ---- row 1
-pub at-most-at : (h : Highest) (n i : ℕ) → h ≡ highest.At i → leb i n ≡ highest_at_most n h
-at-most-at h n i e = rw e
+-- ---- media
+not-high : (x : ℤ) → too_high x ≡ false → natural x < 2 ^ 48
+not-high (pos i) h = omega (arith, ltb-false max_media_index i h)
+not-high (negsuc j) h = omega arith
 
-module _ (c : Receiver) (s : Bool) (es : s ≡ settings_listed c.session.settings) where
-  pub listed-settings : not s ≡ true → false ≡ receiver_listed c
-  unfolding receiver_listed
-  listed-settings h = rw (← es, not-true s h)
+abbrev media_by : Receiver → (packet : List ℕ) → Result MediaOpening Refusal → Outcome Receiver
+media_by c b (Ok v) = media_opened c b v.index
+media_by c b (Err n) = refused n
 
-  module _ (hs : not s ≡ false) (m : Bool) (em : m ≡ highest_at_most max_media_index c.media.highest) where
-    pub listed-media : not m ≡ true → false ≡ receiver_listed c
-    unfolding receiver_listed
-    listed-media h = rw (← es, not-false s hs, ← em, not-true m h)
+module _ (c : Receiver) (b : List ℕ) (room : ℕ) where
+  abbrev media_before : List ℕ
+  media_before = media_portion c.session b
 
-    pub listed-control : not m ≡ false → (k : Bool) → k ≡ highest_at_most max_control_index c.control.highest → k ≡ receiver_listed c
-    unfolding receiver_listed
-    listed-control h k e = rw (← es, not-false s hs, ← em, not-false m h, ← e)
+  abbrev media_at : ℕ
+  media_at = natural (media_index c b)
 
--- ---- OLD and REPEAT
-abbrev replayed : Verdict → Judged
-replayed v = judged_as (judged (row (is_old v) Old ∷ row (is_repeat v) Repeat ∷ []))
+  pub receive_media_by : receive_media c b room ≡ media_by c b (media_verdict c b room)
+  unfolding receive_media media_verdict
+  receive_media_by = go (judged (receive_media_rows c b room (media_index c b)))
+    where
+      go : (j : Judgement) → settled j (media_opened c b media_at) ≡ media_by c b (media_as (header_length media_before) (length media_before) media_at j)
+      go passes = refl
+      go (stops n) = refl
 
-module _ (w : Window) (i : ℕ) {v : Verdict} (e : v ≡ window_verdict window_length w i) where
-  pub replay-new : v ≡ verdict.New → Passes ≡ judged_as (judged (replay_rows w i))
-  replay-new h = ap replayed (sym h ∙ e)
+pub record MediaOpens (c : Receiver) (b : List ℕ) (room : ℕ) : Type 0 where
+  pub told :
+      media_verdict c b room ≡ Ok (record { header_len = header_length (media_before c b room); len = length (media_before c b room); index = media_at c b room })
+  pub part : take (length (media_before c b room)) b ≡ media_before c b room
+  pub within : length (media_before c b room) ≤ length b
+  pub fits : header_length (media_before c b room) ≤ length (media_before c b room)
+  pub bound : media_at c b room < 2 ^ 48
+  pub short : length (media_before c b room) ≤ 2048
+  pub enough : length (media_before c b room) ≤ room
 
-  pub replay-old : v ≡ verdict.Old → Stops Old ≡ judged_as (judged (replay_rows w i))
-  replay-old h = ap replayed (sym h ∙ e)
+pub media_opens : (c : Receiver) (b : List ℕ) (room : ℕ) → is_ok (media_verdict c b room) ≡ true → MediaOpens c b room
+unfolding media_verdict
+media_opens c b room e =
+    let a : List ℕ = media_portion c.session b in
+    let rows = receive_media_rows c b room (media_index c b) in
+    let t = told-found _ (judged rows) e in
+    let w = none-holds rows t in
+    record {
+      told = rw t refl;
+      part = sym (portion-take (length (mki_bytes c.session)) (tag_length c.session) b (length a) refl);
+      within = omega (arith, portion-length (length (mki_bytes c.session)) (tag_length c.session) b);
+      fits = rtp-fits a (not-false (is_rtp a) w.1.1.0);
+      bound = not-high (media_index c b) w.1.1.1.1.1.1.0;
+      short = ltb-false 2048 (length a) w.1.0;
+      enough = ltb-false room (length a) w.1.1.1.1.0;
+    }
 
-  pub replay-repeat : v ≡ verdict.Repeat → Stops Repeat ≡ judged_as (judged (replay_rows w i))
-  replay-repeat h = ap replayed (sym h ∙ e)
+pub ruleset media_calls = (receive_media_by, media_opens, length-ciphered_media)
 
--- ---- STREAM, ROOM and KEY
-module _ (s : Settings) (ssrc len room : ℕ) (mki : List ℕ) where
-  pub address-stream : (ssrc ≡ s.ssrc → ⊥) → Stops Stream ≡ judged_as (judged (address_rows s ssrc len room mki))
-  address-stream h = rw (ne_eqb ssrc s.ssrc h)
+-- ---- control
+abbrev control_by : Receiver → (packet : List ℕ) → Result ControlOpening Refusal → Outcome Receiver
+control_by c b (Ok v) = control_opened c b v.index
+control_by c b (Err n) = refused n
 
-  pub address_room : ssrc ≡ s.ssrc → room < len → Stops Room ≡ judged_as (judged (address_rows s ssrc len room mki))
-  address_room e h = rw (eq-eqb ssrc s.ssrc e, lt-ltb room len h)
+module _ (c : Receiver) (b : List ℕ) (room : ℕ) where
+  abbrev control_before : List ℕ
+  control_before = rtcp_portion (control_received c.session b)
 
-  module _ (e : ssrc ≡ s.ssrc) (h : len ≤ room) (k : Bool) (ek : k ≡ same mki (take s.mki_len s.mki)) where
-    pub address-key : not k ≡ true → Stops Key ≡ judged_as (judged (address_rows s ssrc len room mki))
-    address-key t = rw (eq-eqb ssrc s.ssrc e, le-ltb room len h, ← ek, not-true k t)
+  abbrev control_flag : Bool
+  control_flag = e_flag (word_of (control_received c.session b))
 
-    pub address-passes : not k ≡ false → Passes ≡ judged_as (judged (address_rows s ssrc len room mki))
-    address-passes t = rw (eq-eqb ssrc s.ssrc e, le-ltb room len h, ← ek, not-false k t)
+  abbrev control_at : ℕ
+  control_at = control_index c.session b
 
--- ---- FORGED: of the tag's twenty bytes w a packet carries the first
-module _ (k : SessionKeys) (a t w : List ℕ) {r : Bool} where
-  pub is-media-tag : (p : Integrity) (n i : ℕ) → 4 ≤ n → n ≤ 14 → w ≡ integrity_tag p 20 k a i → r ≡ same t (take n w) →
-      r ≡ same t (integrity_tag p n k a i)
-  is-media-tag p n i least most e q =
-      q ∙ ap (λ (l : List ℕ). same t (take n l)) e ∙ ap (same t) (take-integrity_tag n k a i least (omega arith) p)
+  pub receive_control_by : receive_control c b room ≡ control_by c b (control_verdict c b room)
+  unfolding receive_control control_verdict
+  receive_control_by = go (judged (receive_control_rows c b room control_at))
+    where
+      go : (j : Judgement) → settled j (control_opened c b control_at) ≡ control_by c b (control_as (length control_before) control_flag control_at j)
+      go passes = refl
+      go (stops n) = refl
 
-  pub is-control-tag : w ≡ control_tag 20 k a → r ≡ same t (take 10 w) → r ≡ same t (control_tag 10 k a)
-  is-control-tag e q = q ∙ ap (λ (l : List ℕ). same t (take 10 l)) e ∙ ap (same t) (take-control_tag 10 k a 20 (omega arith))
+pub record ControlOpens (c : Receiver) (b : List ℕ) (room : ℕ) : Type 0 where
+  pub told :
+      control_verdict c b room ≡ Ok (record { len = length (control_before c b room); encrypted = control_flag c b room; index = control_at c b room })
+  pub part : take (length (control_before c b room)) b ≡ control_before c b room
+  pub within : length (control_before c b room) ≤ length b
+  pub least : 8 ≤ length (control_before c b room)
+  pub bound : control_at c b room < 2 ^ 48
+  pub short : length (control_before c b room) ≤ 2048
+  pub enough : length (control_before c b room) ≤ room
 
--- ---- what the caller sees
-pub shows-refused : {o : Outcome Receiver} {c : Receiver} {d : List ℕ} {n : Refusal} → o ≡ refused n →
-    ReceiverShows o c d (record { answer = Refused n; next = c }) d
-shows-refused e = rw e (record { answer = refl; shows = refl; next = refl; buffer = refl })
+pub control_opens : (c : Receiver) (b : List ℕ) (room : ℕ) → is_ok (control_verdict c b room) ≡ true → ControlOpens c b room
+unfolding control_verdict
+control_opens c b room e =
+    let p : List ℕ = control_before c b room in
+    let rows = receive_control_rows c b room (control_index c.session b) in
+    let t = told-found _ (judged rows) e in
+    let w = none-holds rows t in
+    record {
+      told = rw t refl;
+      part = sym (rtcp-take (length (mki_bytes c.session)) control_tag_length b (length p) refl);
+      within = omega (arith, portion-length (length (mki_bytes c.session)) control_tag_length b, before-word-length (control_received c.session b));
+      least = rtcp-least p (not-false (is_rtcp p) w.1.1.0);
+      bound = omega (arith, index-most (word_of (control_received c.session b)));
+      short = ltb-false 2048 (length p) w.1.0;
+      enough = ltb-false room (length p) w.1.1.1.1.0;
+    }
 
-pub shows-done : {o : Outcome Receiver} {c s s' : Receiver} {d d' p : List ℕ} {len i : ℕ} → o ≡ done p i s → len ≡ length p → s' ≡ s →
-    d' ≡ over p d → ReceiverShows o c d (record { answer = Sent len i; next = s' }) d'
-shows-done e l n b = rw (e, l, n, b) (record { answer = refl; shows = refl; next = refl; buffer = refl })
+pub ruleset control_calls = (receive_control_by, control_opens, length-ciphered_control)

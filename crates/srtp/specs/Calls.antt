@@ -1,6 +1,6 @@
 -- The four calls on a packet, each a total definition: context, bytes to read and length of the buffer in, outcome out. The rows of each
 -- stand in the order of the table of refusals, without those that do not concern it. Assumes nothing.
-use Rattle.std.specs.Prelude.{ℕ, ◌+◌, Bool, true, false, cond, not, List, [], ◌∷◌, eqb, leb, ltb, ℤ, pos, negsuc, length}
+use Rattle.std.specs.Prelude.{ℕ, ◌+◌, Bool, true, false, cond, not, List, [], ◌∷◌, eqb, leb, ltb, ℤ, pos, negsuc, length, Result, Ok, Err}
 use Rattle.octets.specs.Equal.{same}
 use Rattle.rtp.specs.Rtp.{is_rtp, sequence_number, rtp_ssrc}
 use Rattle.rtp.specs.Rtcp.{is_rtcp, rtcp_ssrc}
@@ -9,8 +9,8 @@ use Rattle.transforms.specs.Rcc.{carries_counter, carried_counter}
 use Rattle.replay.specs.Index.{max_media_index, max_control_packets, index_of, estimate, next_index, out_of_order, media_after, control_after}
 use Rattle.replay.specs.Window.{window_length, window_verdict, window_mark}
 use Rattle.replay.specs.declared.window.Window.{Window}
-use Rattle.replay.specs.declared.window.Verdict.{Verdict}
-use Rattle.replay.specs.declared.window.Verdict.TheVariants as verdict
+use Rattle.replay.specs.declared.window.Replayed.{Replayed}
+use Rattle.replay.specs.declared.window.Replayed.TheVariants as replayed
 use Rattle.srtp.specs.declared.Refusal.TheVariants.{Setup, Long, Shape, Stream, Room, Key, Order, Spent, Old, Repeat, Forged}
 use Rattle.session.specs.declared.Session.{Session}
 use Rattle.srtp.specs.declared.Sender.{Sender}
@@ -68,15 +68,15 @@ abbrev pub too_high : ℤ → Bool
 too_high (pos i) = ltb max_media_index i
 too_high (negsuc j) = false
 
-abbrev pub is_old : Verdict → Bool
-is_old verdict.Old = true
-is_old verdict.Repeat = false
-is_old verdict.New = false
+abbrev pub is_old : Result Unit Replayed → Bool
+is_old (Err replayed.Old) = true
+is_old (Err replayed.Repeat) = false
+is_old (Ok u) = false
 
-abbrev pub is_repeat : Verdict → Bool
-is_repeat verdict.Old = false
-is_repeat verdict.Repeat = true
-is_repeat verdict.New = false
+abbrev pub is_repeat : Result Unit Replayed → Bool
+is_repeat (Err replayed.Old) = false
+is_repeat (Err replayed.Repeat) = true
+is_repeat (Ok u) = false
 
 abbrev pub old : Window → ℤ → Bool
 old w (pos i) = is_old (window_verdict window_length w i)

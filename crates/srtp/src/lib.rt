@@ -3,20 +3,21 @@
 #![tactic(auto)]
 
 mod receiving;
+mod refusals;
 mod sending;
 mod setup;
 
 ghost use Rattle.std.specs.Prelude.{◌≡◌};
-ghost use Rattle.srtp.specs.Refusals.{number_of};
+ghost use Rattle.srtp.specs.Contexts.{highest_at_most};
 
 use replay::index::{ControlSender, MediaSender};
 use replay::window::Window;
 use session::Session;
 
-// Why a call refuses, in the order of the table of refusals.
-#[derive(Clone, Copy)]
+// Why a call refuses: the rows of the table in their order, each with its number.
+#[derive(Clone, Copy, Debug, PartialEq, Eq)]
 pub enum Refusal {
-    Setup,
+    Setup = 1,
     Long,
     Shape,
     Stream,
@@ -29,47 +30,20 @@ pub enum Refusal {
     Forged,
 }
 
-impl Refusal {
-    // Its number in the table of refusals.
-    pub fn number(self) -> u8
-        ensures { result ≡ number_of self }
-    {
-        match self {
-            Refusal::Setup => 1,
-            Refusal::Long => 2,
-            Refusal::Shape => 3,
-            Refusal::Stream => 4,
-            Refusal::Room => 5,
-            Refusal::Key => 6,
-            Refusal::Order => 7,
-            Refusal::Spent => 8,
-            Refusal::Old => 9,
-            Refusal::Repeat => 10,
-            Refusal::Forged => 11,
-        }
-    }
+// A number that no refusal has.
+#[derive(Clone, Copy, Debug, PartialEq, Eq)]
+pub struct UnknownNumber(pub u8);
+
+// A finished packet: `len` bytes at the start of the outgoing buffer, and its index. The bytes stand in the caller's buffer, which C lends too, so
+// their number is answered and no slice.
+#[derive(Clone, Copy, Debug, PartialEq, Eq)]
+pub struct Finished {
+    pub len: usize,
+    pub index: u64,
 }
 
-// A finished packet of `len` bytes at the start of the outgoing buffer, with its index; or a refusal.
-#[derive(Clone, Copy)]
-pub enum Answer {
-    Sent { len: usize, index: u64 },
-    Refused(Refusal),
-}
-
-// What set-up answers.
-#[derive(Clone, Copy)]
-pub enum SetUpAnswer {
-    Ready,
-    Refused(Refusal),
-}
-
-// The last sequence number that a receiver is told at set-up, if it is known.
-#[derive(Clone, Copy)]
-pub enum LastNumber {
-    Unknown,
-    Known(u16),
-}
+// What a call answers.
+pub type Answer = Result<Finished, Refusal>;
 
 #[derive(Clone, Copy)]
 pub struct Sender {
@@ -87,26 +61,23 @@ pub struct Receiver {
     pub control: Window,
 }
 
+// What set-up answers, and beside it the context. It is no `Result` of a context: the closed one stands beside a refusal.
 #[derive(Clone, Copy)]
-pub struct SenderSetUp {
-    pub answer: SetUpAnswer,
-    pub context: Sender,
+pub struct Made<C> {
+    pub answer: Result<(), Refusal>,
+    pub context: C,
 }
 
+// What a call answers, and beside it the context's next state: a context goes in by value and comes back, on a refusal too.
 #[derive(Clone, Copy)]
-pub struct ReceiverSetUp {
-    pub answer: SetUpAnswer,
-    pub context: Receiver,
-}
-
-#[derive(Clone, Copy)]
-pub struct SenderAfter {
+pub struct After<C> {
     pub answer: Answer,
-    pub next: Sender,
+    pub next: C,
 }
 
-#[derive(Clone, Copy)]
-pub struct ReceiverAfter {
-    pub answer: Answer,
-    pub next: Receiver,
+// A last or highest index within a bound. Where there is none yet, it has no bound.
+fn at_most(index: Option<u64>, bound: u64) -> bool
+    ensures { result ≡ highest_at_most bound index }
+{
+    index.is_none_or(|i| i <= bound)
 }

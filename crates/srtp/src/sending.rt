@@ -1,217 +1,154 @@
 // Sending: a packet is judged whole before anything is written; then it is protected, and its index kept as the last one used.
-ghost use Rattle.std.specs.Prelude.{◌≡◌, true, ◌≤◌, length};
-ghost use Rattle.rtp.specs.Rtp.{header_length, sequence_number, rtp_ssrc};
-ghost use Rattle.rtp.specs.Rtcp.{rtcp_ssrc};
-ghost use Rattle.replay.specs.Index.{max_media_index};
-ghost use Rattle.srtp.specs.Contexts.{last_at_most, sender_listed};
+ghost use Rattle.std.specs.Prelude.{◌≡◌, length};
+ghost use Rattle.srtp.specs.Contexts.{sender_listed};
 ghost use Rattle.srtp.specs.Calls.{send_media, send_control};
 ghost use Rattle.srtp.specs.Outcomes.{SenderShows};
-ghost use Rattle.srtp.specs.SenderSteps.{media_verdict_from, control_verdict_from};
+ghost use Rattle.srtp.specs.SenderSteps.{media_verdict, control_verdict};
 
-use crate::{Answer, Refusal, Sender, SenderAfter};
-use replay::index::{
-    ControlSender, LastSent, MAX_CONTROL_PACKETS, MAX_MEDIA_INDEX, MediaSender, NextControlIndex,
-    NextIndex,
-};
-use rtp::{Header, RtcpHeader};
+use crate::{After, Finished, Refusal, Sender, at_most};
+use replay::index::{ControlSender, MAX_CONTROL_PACKETS, MAX_MEDIA_INDEX, MediaSender};
 use session::Profile;
 
-// What the rows of media say: where none holds, where the payload starts, the index, and the state once the packet is sent.
+// A media packet that no row refuses: where its payload starts, its index, and the state once it is sent.
 #[derive(Clone, Copy)]
-enum MediaVerdict {
-    Protects {
-        header_len: usize,
-        index: u64,
-        after: MediaSender,
-    },
-    Stops(Refusal),
+struct MediaProtection {
+    header_len: usize,
+    index: u64,
+    after: MediaSender,
 }
 
-// The same of control: the index and the state.
+// The same of control.
 #[derive(Clone, Copy)]
-enum ControlVerdict {
-    Protects { index: u64, after: ControlSender },
-    Stops(Refusal),
+struct ControlProtection {
+    index: u64,
+    after: ControlSender,
 }
 
-// ---- the rows
-
-// A last index within its bound. What is absent has none.
-fn last_listed(last: LastSent) -> bool
-    ensures { result ≡ last_at_most max_media_index last }
-{
-    match last {
-        LastSent::Nothing => true,
-        LastSent::At(index) => index <= MAX_MEDIA_INDEX,
-    }
-}
+// ---- the rows. Media and control have each its own: their layouts, indices and states are of other types.
 
 impl Sender {
     // Not SETUP: the lengths that set-up lists, and the bounds of the last index and of the count.
+    #[tactic(auto, unfolding(crate::specs::Contexts::sender_listed))]
     fn listed(self) -> bool
         ensures { result ≡ sender_listed self }
     {
-        let session = self.session;
-        let settings = session.settings;
-        if !settings.listed() {
-            return false;
-        }
-        let media = self.media;
-        let last = media.last;
-        if !last_listed(last) {
-            return false;
-        }
-        self.control.sent <= MAX_CONTROL_PACKETS
+        self.session.settings.listed()
+            && at_most(self.media.last, MAX_MEDIA_INDEX)
+            && self.control.sent <= MAX_CONTROL_PACKETS
     }
 
-    // SETUP, LONG and SHAPE, and the rows behind them. Where the header can't be read, nothing after it is tried.
-    fn judge_media(self, packet: &[u8], room: usize) -> MediaVerdict
-        ensures { result ≡ media_verdict_from 0 self packet.now room }
+    // All rows of a media packet. Where the header can't be read, nothing after it is tried.
+    #[tactic(auto, using(crate::proofs::SenderLaws::media_steps), unfolding(crate::specs::SenderSteps::media_verdict))]
+    fn judge_media(self, packet: &[u8], room: usize) -> Result<MediaProtection, Refusal>
+        ensures { result ≡ media_verdict self packet.now room }
     {
         if !self.listed() {
-            return MediaVerdict::Stops(Refusal::Setup);
+            return Err(Refusal::Setup);
         }
         if packet.len() > Profile::MAX_PACKET_LEN {
-            return MediaVerdict::Stops(Refusal::Long);
+            return Err(Refusal::Long);
         }
-        let Header::Rtp {
-            header_len,
-            sequence_number,
-            ssrc,
-        } = rtp::read_header(packet)
-        else {
-            return MediaVerdict::Stops(Refusal::Shape);
+        let Some(header) = rtp::read_header(packet) else {
+            return Err(Refusal::Shape);
         };
-        self.judge_media_header(packet, room, header_len, sequence_number, ssrc)
-    }
-
-    // STREAM, ROOM, ORDER and SPENT.
-    fn judge_media_header(
-        self,
-        packet: &[u8],
-        room: usize,
-        header_len: usize,
-        number: u16,
-        ssrc: u32,
-    ) -> MediaVerdict
-        requires header { (header_len ≡ header_length packet.now) × (number ≡ sequence_number packet.now) × (ssrc ≡ rtp_ssrc packet.now) }
-        requires listed { (length packet.now ≤ 2048) × (sender_listed self ≡ true) }
-        ensures { result ≡ media_verdict_from 3 self packet.now room }
-    {
-        let session = self.session;
-        let settings = session.settings;
-        if ssrc != settings.ssrc {
-            return MediaVerdict::Stops(Refusal::Stream);
+        let settings = self.session.settings;
+        if header.ssrc != settings.ssrc {
+            return Err(Refusal::Stream);
         }
         let need = packet.len() + settings.mki_len + settings.profile.tag_len;
         if room < need {
-            return MediaVerdict::Stops(Refusal::Room);
+            return Err(Refusal::Room);
         }
-        let media = self.media;
-        let step = media.step(number);
-        let next = step.index;
-        let after = step.next;
-        match next {
-            NextIndex::Index(index) => MediaVerdict::Protects {
-                header_len,
-                index,
-                after,
-            },
-            NextIndex::Order => MediaVerdict::Stops(Refusal::Order),
-            NextIndex::Spent => MediaVerdict::Stops(Refusal::Spent),
-        }
+        let step = self.media.step(header.sequence_number);
+        Ok(MediaProtection {
+            header_len: header.len,
+            index: step.index?,
+            after: step.next,
+        })
     }
 
-    // SETUP, LONG and SHAPE, and the rows behind them.
-    fn judge_control(self, packet: &[u8], room: usize) -> ControlVerdict
-        ensures { result ≡ control_verdict_from 0 self packet.now room }
+    // All rows of a control packet.
+    #[tactic(auto, using(crate::proofs::SenderLaws::control_steps), unfolding(crate::specs::SenderSteps::control_verdict))]
+    fn judge_control(self, packet: &[u8], room: usize) -> Result<ControlProtection, Refusal>
+        ensures { result ≡ control_verdict self packet.now room }
     {
         if !self.listed() {
-            return ControlVerdict::Stops(Refusal::Setup);
+            return Err(Refusal::Setup);
         }
         if packet.len() > Profile::MAX_PACKET_LEN {
-            return ControlVerdict::Stops(Refusal::Long);
+            return Err(Refusal::Long);
         }
-        let RtcpHeader::Rtcp { ssrc } = rtp::read_rtcp(packet) else {
-            return ControlVerdict::Stops(Refusal::Shape);
+        let Some(header) = rtp::read_rtcp(packet) else {
+            return Err(Refusal::Shape);
         };
-        self.judge_control_header(packet, room, ssrc)
-    }
-
-    // STREAM, ROOM and SPENT.
-    fn judge_control_header(self, packet: &[u8], room: usize, ssrc: u32) -> ControlVerdict
-        requires header { ssrc ≡ rtcp_ssrc packet.now }
-        requires listed { (length packet.now ≤ 2048) × (sender_listed self ≡ true) }
-        ensures { result ≡ control_verdict_from 3 self packet.now room }
-    {
-        let session = self.session;
-        let settings = session.settings;
-        if ssrc != settings.ssrc {
-            return ControlVerdict::Stops(Refusal::Stream);
+        let settings = self.session.settings;
+        if header.ssrc != settings.ssrc {
+            return Err(Refusal::Stream);
         }
+        // The index word has 4 bytes.
         let need = packet.len() + 4 + settings.mki_len + Profile::CONTROL_TAG_LEN;
         if room < need {
-            return ControlVerdict::Stops(Refusal::Room);
+            return Err(Refusal::Room);
         }
-        let control = self.control;
-        let step = control.step();
-        let next = step.index;
-        let after = step.next;
-        match next {
-            NextControlIndex::Index(index) => ControlVerdict::Protects { index, after },
-            NextControlIndex::Spent => ControlVerdict::Stops(Refusal::Spent),
-        }
+        let step = self.control.step();
+        Ok(ControlProtection {
+            index: step.index?,
+            after: step.next,
+        })
     }
 }
 
-// ---- the calls
+// ---- the calls. Media and control have rows of their own, another call of the session, and another state that moves on: one function for
+// both would take all three as parameters.
 
 impl Sender {
     // Protects an RTP packet into `out` (RFC 3711, 3.3).
-    pub fn send_media(self, packet: &[u8], out: &mut [u8]) -> SenderAfter
+    #[tactic(auto, using(crate::proofs::SenderReturns::media_calls))]
+    pub fn send_media(self, packet: &[u8], out: &mut [u8]) -> After<Sender>
         ensures { SenderShows (send_media self packet.now (length out.old)) self out.old result out.new }
     {
-        let verdict = self.judge_media(packet, out.len());
-        match verdict {
-            MediaVerdict::Stops(refusal) => SenderAfter {
-                answer: Answer::Refused(refusal),
+        match self.judge_media(packet, out.len()) {
+            Err(refusal) => After {
+                answer: Err(refusal),
                 next: self,
             },
-            MediaVerdict::Protects {
-                header_len,
-                index,
-                after,
-            } => {
-                let session = self.session;
-                let len = session.protect_media(packet, header_len, index, out);
-                let mut next = self;
-                next.media = after;
-                SenderAfter {
-                    answer: Answer::Sent { len, index },
-                    next,
+            Ok(
+                MediaProtection {
+                    header_len,
+                    index,
+                    after,
+                },
+            ) => {
+                let len = self.session.protect_media(packet, header_len, index, out);
+                After {
+                    answer: Ok(Finished { len, index }),
+                    next: Sender {
+                        media: after,
+                        ..self
+                    },
                 }
             }
         }
     }
 
     // Protects an RTCP packet into `out` (RFC 3711, 3.4).
-    pub fn send_control(self, packet: &[u8], out: &mut [u8]) -> SenderAfter
+    #[tactic(auto, using(crate::proofs::SenderReturns::control_calls))]
+    pub fn send_control(self, packet: &[u8], out: &mut [u8]) -> After<Sender>
         ensures { SenderShows (send_control self packet.now (length out.old)) self out.old result out.new }
     {
-        let verdict = self.judge_control(packet, out.len());
-        match verdict {
-            ControlVerdict::Stops(refusal) => SenderAfter {
-                answer: Answer::Refused(refusal),
+        match self.judge_control(packet, out.len()) {
+            Err(refusal) => After {
+                answer: Err(refusal),
                 next: self,
             },
-            ControlVerdict::Protects { index, after } => {
-                let session = self.session;
-                let len = session.protect_control(packet, index, out);
-                let mut next = self;
-                next.control = after;
-                SenderAfter {
-                    answer: Answer::Sent { len, index },
-                    next,
+            Ok(ControlProtection { index, after }) => {
+                let len = self.session.protect_control(packet, index, out);
+                After {
+                    answer: Ok(Finished { len, index }),
+                    next: Sender {
+                        control: after,
+                        ..self
+                    },
                 }
             }
         }

@@ -1,5 +1,3 @@
 pub mod PlainLaws
 mod Returns
 mod Stores
-mod RawPart
-mod StoredFields

@@ -3,12 +3,9 @@
 use Prim.Native.Nat.{ℕ}
 use mathlib.Core.Bool.{true, false}
 use mathlib.Core.List.{List}
+use Rattle.std.specs.Prelude.{Option, None, Some}
 use mathlib.Core.Path.{◌≡◌, refl, ap}
 use lib.ListN.{replicate}
-use Rattle.replay.specs.declared.index.LastSent.{LastSent}
-use Rattle.replay.specs.declared.index.LastSent.TheVariants as last
-use Rattle.replay.specs.declared.index.Highest.{Highest}
-use Rattle.replay.specs.declared.index.Highest.TheVariants as highest
 use Rattle.hmac_sha1.specs.declared.State.{State}
 use Rattle.transforms.specs.declared.SessionKeys.{SessionKeys}
 use Rattle.transforms.specs.declared.Cipher.{Cipher}
@@ -28,7 +25,7 @@ use Rattle.srtp_c.specs.declared.Window.{Window}
 use Rattle.srtp_c.specs.declared.Sender as plain-sender
 use Rattle.srtp_c.specs.declared.Receiver as plain-receiver
 use Rattle.srtp_c.specs.Plain.{two_cased, cipher_of, cipher_number, integrity_of, integrity_number, integrity_rate}
-use Rattle.srtp_c.specs.Plain.{last_of, has_last, last_index, highest_of, has_highest, highest_index, profile_named, profile_of, plain_profile}
+use Rattle.srtp_c.specs.Plain.{marked, mark_of, value_of, profile_named, profile_of, plain_profile}
 use Rattle.srtp_c.specs.Plain.{sender_named, sender_of, plain_sender, receiver_named, receiver_of, plain_receiver}
 
 -- ---- enums
@@ -48,21 +45,13 @@ integrity-back : (t : Integrity) → integrity_of (integrity_number t) (integrit
 integrity-back HmacSha1 = refl
 integrity-back (Rccm2 rate) = refl
 
-last-named : (l : LastSent) → two_cased (has_last l) ≡ true
-last-named last.Nothing = refl
-last-named (last.At i) = refl
+mark-named : (o : Option ℕ) → two_cased (mark_of o) ≡ true
+mark-named None = refl
+mark-named (Some i) = refl
 
-last-back : (l : LastSent) → last_of (has_last l) (last_index l) ≡ l
-last-back last.Nothing = refl
-last-back (last.At i) = refl
-
-highest-named : (h : Highest) → two_cased (has_highest h) ≡ true
-highest-named highest.Absent = refl
-highest-named (highest.At i) = refl
-
-highest-back : (h : Highest) → highest_of (has_highest h) (highest_index h) ≡ h
-highest-back highest.Absent = refl
-highest-back (highest.At i) = refl
+mark-back : (o : Option ℕ) → marked (mark_of o) (value_of o) ≡ o
+mark-back None = refl
+mark-back (Some i) = refl
 
 -- ---- profiles
 profile-named : (p : core-profile.Profile) → profile_named (plain_profile p) ≡ true
@@ -77,7 +66,7 @@ unfolding sender_of plain_sender
 sender-back c =
     let p = c.session.settings.profile in
     let l = c.media.last in
-    rw (profile-named p, last-named l, profile-back p, last-back l)
+    rw (profile-named p, mark-named l, profile-back p, mark-back l)
 
 pub receiver-back : (c : Receiver) → receiver_of (plain_receiver c) ≡ c
 unfolding receiver_of plain_receiver
@@ -85,7 +74,7 @@ receiver-back c =
     let p = c.session.settings.profile in
     let m = c.media.highest in
     let n = c.control.highest in
-    rw (profile-named p, highest-named m, highest-named n, profile-back p, highest-back m, highest-back n)
+    rw (profile-named p, mark-named m, mark-named n, profile-back p, mark-back m, mark-back n)
 
 -- ---- a number that no enum has: every call is refused as SETUP
 module _ (packet : List ℕ) (room : ℕ) where

@@ -20,9 +20,8 @@ use Rattle.srtp_c.specs.declared.Session.{Session}
 use Rattle.srtp_c.specs.declared.Sender.{Sender}
 use Rattle.srtp_c.specs.declared.Window.{Window}
 use Rattle.srtp_c.specs.declared.Receiver.{Receiver}
-use Rattle.srtp_c.specs.declared.SenderAfter.{SenderAfter}
-use Rattle.srtp_c.specs.declared.ReceiverAfter.{ReceiverAfter}
-use Rattle.srtp_c.specs.Plain.{two_cased, cipher_of, cipher_number, integrity_of, integrity_number, highest_of, has_highest}
+use Rattle.srtp_c.specs.declared.After.{After}
+use Rattle.srtp_c.specs.Plain.{two_cased, cipher_of, cipher_number, integrity_of, integrity_number, marked, mark_of}
 use Rattle.srtp_c.specs.Plain.{profile_named, sender_named, sender_of, plain_sender, receiver_named, receiver_of, plain_receiver}
 use Rattle.srtp_c.specs.Boundary.{plain_next, SendsMedia, SendsControl, ReceivesMedia, ReceivesControl}
 use Rattle.srtp_c.proofs.PlainLaws.{unnamed-send-media, unnamed-send-control, unnamed-receive-media, unnamed-receive-control}
@@ -99,8 +98,8 @@ profile-kept q e =
       zero-or-one (λ (n : ℕ). integrity_number (integrity_of n q.rate) ≡ n) refl refl q.integrity named.1,
     )
 
-highest-kept : (w : Window) → two_cased w.has_highest ≡ true → has_highest (highest_of w.has_highest w.highest) ≡ w.has_highest
-highest-kept w = zero-or-one (λ (n : ℕ). has_highest (highest_of n w.highest) ≡ n) refl refl w.has_highest
+highest-kept : (w : Window) → two_cased w.has_highest ≡ true → mark_of (marked w.has_highest w.highest) ≡ w.has_highest
+highest-kept w = zero-or-one (λ (n : ℕ). mark_of (marked n w.highest) ≡ n) refl refl w.has_highest
 
 -- ---- the next context of `srtp` has the old session, and what is not of the packet's kind
 sender-left : (c : Sender) → sender_named c ≡ true → (m : MediaSender) (k : ControlSender)
@@ -151,7 +150,7 @@ module _ {S P : Type 0} (plain : S → P) (stored : P → P → P) (c : P) (same
   shown-stores o false h k n e = subst (λ (m : P). stored c m ≡ m) (sym e) (subst Stored (sym (k refl)) same)
 
 -- ---- the calls
-module _ (c : Sender) (p before : List ℕ) (r : SenderAfter) (after : List ℕ) where
+module _ (c : Sender) (p before : List ℕ) (r : After Sender) (after : List ℕ) where
   pub send-media-stores : SendsMedia c p before r after → sender_stored c r.next ≡ r.next
   unfolding send_media
   send-media-stores h =
@@ -170,7 +169,7 @@ module _ (c : Sender) (p before : List ℕ) (r : SenderAfter) (after : List ℕ)
       (λ e. settled-stores plain_sender sender_stored c refl (judged (send_control_rows s p room)) (control_sent s p _) (sender-left c e _ _))
       (unnamed-send-control p room c) r.next h.leaves
 
-module _ (c : Receiver) (p before : List ℕ) (r : ReceiverAfter) (after : List ℕ) where
+module _ (c : Receiver) (p before : List ℕ) (r : After Receiver) (after : List ℕ) where
   pub receive-media-stores : ReceivesMedia c p before r after → media_stored c r.next ≡ r.next
   unfolding receive_media
   receive-media-stores h =

@@ -1,10 +1,6 @@
 -- What a plain struct of the boundary stands for, and the plain form of a value of `srtp`. A number that no enum has makes a context the
 -- closed one. Assumes nothing.
-use Rattle.std.specs.Prelude.{ℕ, Bool, cond, ◌&&◌, eqb, leb}
-use Rattle.replay.specs.declared.index.LastSent.{LastSent}
-use Rattle.replay.specs.declared.index.LastSent.TheVariants as last
-use Rattle.replay.specs.declared.index.Highest.{Highest}
-use Rattle.replay.specs.declared.index.Highest.TheVariants as highest
+use Rattle.std.specs.Prelude.{ℕ, Bool, cond, ◌&&◌, eqb, leb, Option, None, Some}
 use Rattle.replay.specs.declared.window.Window as core-window
 use Rattle.transforms.specs.declared.Cipher.{Cipher}
 use Rattle.transforms.specs.declared.Cipher.TheVariants.{Aes, Null}
@@ -43,27 +39,17 @@ abbrev pub integrity_rate : Integrity → ℕ
 integrity_rate HmacSha1 = 0
 integrity_rate (Rccm2 rate) = rate
 
-abbrev pub last_of : (has index : ℕ) → LastSent
-last_of has i = cond (eqb has 1) (last.At i) last.Nothing
+-- ---- what may be absent: a mark, 1 where it is there, and the value, 0 where it is not
+abbrev pub marked : (mark index : ℕ) → Option ℕ
+marked mark i = cond (eqb mark 1) (Some i) None
 
-abbrev pub has_last : LastSent → ℕ
-has_last last.Nothing = 0
-has_last (last.At i) = 1
+abbrev pub mark_of : Option ℕ → ℕ
+mark_of None = 0
+mark_of (Some i) = 1
 
-abbrev pub last_index : LastSent → ℕ
-last_index last.Nothing = 0
-last_index (last.At i) = i
-
-abbrev pub highest_of : (has index : ℕ) → Highest
-highest_of has i = cond (eqb has 1) (highest.At i) highest.Absent
-
-abbrev pub has_highest : Highest → ℕ
-has_highest highest.Absent = 0
-has_highest (highest.At i) = 1
-
-abbrev pub highest_index : Highest → ℕ
-highest_index highest.Absent = 0
-highest_index (highest.At i) = i
+abbrev pub value_of : Option ℕ → ℕ
+value_of None = 0
+value_of (Some i) = i
 
 -- ---- profiles and sessions
 -- whether each number of an enum is one
@@ -110,7 +96,7 @@ sender_of c =
     cond (sender_named c)
     (record {
       session = session_of c.session;
-      media = record { last = last_of c.has_last c.last_index };
+      media = record { last = marked c.has_last c.last_index };
       control = record { sent = c.control_sent };
     })
     closed_sender
@@ -119,17 +105,17 @@ unfoldable pub plain_sender : core-sender.Sender → Sender
 plain_sender c =
     record {
       session = plain_session c.session;
-      has_last = has_last c.media.last;
-      last_index = last_index c.media.last;
+      has_last = mark_of c.media.last;
+      last_index = value_of c.media.last;
       control_sent = c.control.sent;
     }
 
 -- ---- receivers
 abbrev pub window_of : Window → core-window.Window
-window_of w = record { highest = highest_of w.has_highest w.highest; words = w.words }
+window_of w = record { highest = marked w.has_highest w.highest; words = w.words }
 
 abbrev pub plain_window : core-window.Window → Window
-plain_window w = record { has_highest = has_highest w.highest; highest = highest_index w.highest; words = w.words }
+plain_window w = record { has_highest = mark_of w.highest; highest = value_of w.highest; words = w.words }
 
 abbrev pub receiver_named : Receiver → Bool
 receiver_named c = profile_named c.session.profile && (two_cased c.media.has_highest && two_cased c.control.has_highest)

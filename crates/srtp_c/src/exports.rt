@@ -4,30 +4,21 @@ ghost use Rattle.std.specs.Prelude.{◌≡◌};
 ghost use Rattle.srtp.specs.Contexts.{closed_sender, closed_receiver};
 ghost use Rattle.srtp_c.specs.Plain.{plain_sender, plain_receiver};
 ghost use Rattle.srtp_c.specs.Boundary.{SendsMedia, SendsControl, ReceivesMedia, ReceivesControl, sender_after, receiver_after};
-ghost use Rattle.srtp_c.specs.Boundary.{set_up_number, number_given, plain_set_up_sender, plain_set_up_receiver};
+ghost use Rattle.srtp_c.specs.Boundary.{set_up_number, plain_set_up_sender, plain_set_up_receiver};
 
-use crate::plain::number_of;
+use crate::plain::{marked, number_of, two_cased};
 use crate::{Answer, Profile, Receiver, ReceiverSetUp, Sender, SenderSetUp};
+use session::SetUp;
 
-// ---- contexts
+// ---- contexts. C links each function by its name, here and below.
 
-fn set_up_number(answer: srtp::SetUpAnswer) -> u32
+// (Neither type is this crate's, so it can't be `From`.)
+fn set_up_number(answer: Result<(), srtp::Refusal>) -> u32
     ensures { result ≡ set_up_number answer }
 {
     match answer {
-        srtp::SetUpAnswer::Ready => 0,
-        srtp::SetUpAnswer::Refused(refusal) => number_of(refusal),
-    }
-}
-
-// The last sequence number, if it is known.
-fn number_given(known: u32, number: u16) -> srtp::LastNumber
-    ensures { result ≡ number_given known number }
-{
-    if known == 1 {
-        srtp::LastNumber::Known(number)
-    } else {
-        srtp::LastNumber::Unknown
+        Ok(()) => 0,
+        Err(refusal) => number_of(refusal),
     }
 }
 
@@ -36,7 +27,7 @@ fn number_given(known: u32, number: u16) -> srtp::LastNumber
 pub extern "C" fn tindrabek_sender_closed() -> Sender
     ensures { result ≡ plain_sender closed_sender }
 {
-    Sender::from_core(srtp::Sender::closed())
+    Sender::from(srtp::Sender::closed())
 }
 
 // The closed receiver: every call on it is refused as SETUP.
@@ -44,10 +35,11 @@ pub extern "C" fn tindrabek_sender_closed() -> Sender
 pub extern "C" fn tindrabek_receiver_closed() -> Receiver
     ensures { result ≡ plain_receiver closed_receiver }
 {
-    Receiver::from_core(srtp::Receiver::closed())
+    Receiver::from(srtp::Receiver::closed())
 }
 
 // A sender under this master key and master salt, with rollover counter 0 and nothing sent.
+#[tactic(auto, unfolding(crate::specs::Boundary::plain_set_up_sender))]
 #[unsafe(no_mangle)]
 pub extern "C" fn tindrabek_sender_set_up(
     ssrc: u32,
@@ -64,16 +56,21 @@ pub extern "C" fn tindrabek_sender_set_up(
             context: tindrabek_sender_closed(),
         };
     }
-    let made = srtp::Sender::set_up(ssrc, key, salt, mki, profile.to_core());
-    let answer = made.answer;
-    let context = made.context;
+    let made = srtp::Sender::set_up(SetUp {
+        ssrc,
+        master_key: key,
+        master_salt: salt,
+        mki,
+        profile: session::Profile::from(profile),
+    });
     SenderSetUp {
-        number: set_up_number(answer),
-        context: Sender::from_core(context),
+        number: set_up_number(made.answer),
+        context: Sender::from(made.context),
     }
 }
 
 // A receiver under this master key and master salt, at a rollover counter and, if `known` is 1, a last sequence number.
+#[tactic(auto, unfolding(crate::specs::Boundary::plain_set_up_receiver))]
 #[unsafe(no_mangle)]
 pub extern "C" fn tindrabek_receiver_set_up(
     ssrc: u32,
@@ -87,26 +84,23 @@ pub extern "C" fn tindrabek_receiver_set_up(
 ) -> ReceiverSetUp
     ensures { result ≡ plain_set_up_receiver ssrc key.now salt.now mki.now profile rollover known number }
 {
-    if !profile.named_with(known) {
+    if !(profile.named() && two_cased(known)) {
         return ReceiverSetUp {
             number: number_of(srtp::Refusal::Setup),
             context: tindrabek_receiver_closed(),
         };
     }
-    let made = srtp::Receiver::set_up(
+    let set_up = SetUp {
         ssrc,
-        key,
-        salt,
+        master_key: key,
+        master_salt: salt,
         mki,
-        profile.to_core(),
-        rollover,
-        number_given(known, number),
-    );
-    let answer = made.answer;
-    let context = made.context;
+        profile: session::Profile::from(profile),
+    };
+    let made = srtp::Receiver::set_up(set_up, rollover, marked(known, number));
     ReceiverSetUp {
-        number: set_up_number(answer),
-        context: Receiver::from_core(context),
+        number: set_up_number(made.answer),
+        context: Receiver::from(made.context),
     }
 }
 

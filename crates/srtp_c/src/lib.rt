@@ -69,7 +69,7 @@ pub struct Answer {
     pub index: u64,
 }
 
-// What set-up answers: 0 and the context, or SETUP's number and the closed context.
+// What set-up answers: 0 and the context, or SETUP's number and the closed context. C has no type parameters, so there are two.
 #[repr(C)]
 #[derive(Clone, Copy)]
 pub struct SenderSetUp {
@@ -84,14 +84,9 @@ pub struct ReceiverSetUp {
     pub context: Receiver,
 }
 
+// What a call by value answers, and the struct after it.
 #[derive(Clone, Copy)]
-pub struct SenderAfter {
+pub struct After<P> {
     pub answer: Answer,
-    pub next: Sender,
-}
-
-#[derive(Clone, Copy)]
-pub struct ReceiverAfter {
-    pub answer: Answer,
-    pub next: Receiver,
+    pub next: P,
 }

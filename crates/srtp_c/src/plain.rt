@@ -1,33 +1,25 @@
 // Plain structs and the values of `srtp` that they stand for. Two cases of an enum are the numbers 0 and 1; a context with another
 // number stands for the closed one, on which every call is refused.
-ghost use Rattle.std.specs.Prelude.{◌≡◌, true, ◌&&◌};
+ghost use Rattle.std.specs.Prelude.{◌≡◌, cond, ◌&&◌, eqb, None, Some, Ok, Err};
 ghost use Rattle.srtp.specs.Refusals.{number_of};
-ghost use Rattle.srtp_c.specs.Plain.{two_cased, cipher_of, cipher_number, integrity_of, integrity_number, integrity_rate};
+ghost use Rattle.srtp.specs.declared.Refusal.TheVariants.{Setup};
+ghost use Rattle.srtp_c.specs.Plain.{two_cased, cipher_of, cipher_number, integrity_of, integrity_number, integrity_rate, mark_of};
 ghost use Rattle.srtp_c.specs.Plain.{profile_named, profile_of, plain_profile, session_of, plain_session};
-ghost use Rattle.srtp_c.specs.Plain.{last_of, has_last, last_index, sender_named, sender_of, plain_sender};
-ghost use Rattle.srtp_c.specs.Plain.{highest_of, has_highest, highest_index, window_of, plain_window, receiver_named, receiver_of, plain_receiver};
+ghost use Rattle.srtp_c.specs.Plain.{sender_named, sender_of, plain_sender};
+ghost use Rattle.srtp_c.specs.Plain.{window_of, plain_window, receiver_named, receiver_of, plain_receiver};
 
 use crate::{Profile, Receiver, Sender, Session, Window};
-use replay::index::{Highest, LastSent};
+use replay::index::{ControlSender, MediaSender};
 use srtp::Refusal;
 use transforms::{Cipher, Integrity};
 
-// ---- numbers of enums
+// ---- numbers of enums, and marks of what may be absent. (No type of these is this crate's, so they can't be `From`.)
 
 // Whether `n` is a number of an enum of two cases.
-fn two_cased(n: u32) -> bool
+pub(crate) fn two_cased(n: u32) -> bool
     ensures { result ≡ two_cased n }
 {
     n <= 1
-}
-
-fn both_two_cased(m: u32, n: u32) -> bool
-    ensures { result ≡ (two_cased m && two_cased n) }
-{
-    if !two_cased(m) {
-        return false;
-    }
-    two_cased(n)
 }
 
 fn cipher_of(n: u32) -> Cipher
@@ -73,67 +65,24 @@ fn integrity_rate(integrity: Integrity) -> u16
     }
 }
 
-fn last_of(has: u32, index: u64) -> LastSent
-    ensures { result ≡ last_of has index }
+// What stands beside a mark: there is something where the mark is 1.
+pub(crate) fn marked<T: Copy>(mark: u32, value: T) -> Option<T>
+    ensures { result ≡ cond (eqb mark 1) (Some value) None }
 {
-    if has == 1 {
-        LastSent::At(index)
-    } else {
-        LastSent::Nothing
-    }
+    if mark == 1 { Some(value) } else { None }
 }
 
-fn has_last(last: LastSent) -> u32
-    ensures { result ≡ has_last last }
+fn mark_of(index: Option<u64>) -> u32
+    ensures { result ≡ mark_of index }
 {
-    match last {
-        LastSent::Nothing => 0,
-        LastSent::At(_) => 1,
-    }
-}
-
-fn last_index(last: LastSent) -> u64
-    ensures { result ≡ last_index last }
-{
-    match last {
-        LastSent::Nothing => 0,
-        LastSent::At(index) => index,
-    }
-}
-
-fn highest_of(has: u32, index: u64) -> Highest
-    ensures { result ≡ highest_of has index }
-{
-    if has == 1 {
-        Highest::At(index)
-    } else {
-        Highest::Absent
-    }
-}
-
-fn has_highest(highest: Highest) -> u32
-    ensures { result ≡ has_highest highest }
-{
-    match highest {
-        Highest::Absent => 0,
-        Highest::At(_) => 1,
-    }
-}
-
-fn highest_index(highest: Highest) -> u64
-    ensures { result ≡ highest_index highest }
-{
-    match highest {
-        Highest::Absent => 0,
-        Highest::At(index) => index,
-    }
+    u32::from(index.is_some())
 }
 
 // The number of a refusal, by the table of refusals.
 pub(crate) fn number_of(refusal: Refusal) -> u32
     ensures { result ≡ number_of refusal }
 {
-    refusal.number() as u32
+    u8::from(refusal) as u32
 }
 
 // ---- profiles and sessions
@@ -143,186 +92,164 @@ impl Profile {
     pub(crate) fn named(self) -> bool
         ensures { result ≡ profile_named self }
     {
-        both_two_cased(self.cipher, self.integrity)
+        two_cased(self.cipher) && two_cased(self.integrity)
     }
+}
 
-    // And `n`, which stands beside the profile, is one too.
-    pub(crate) fn named_with(self, n: u32) -> bool
-        ensures { result ≡ (profile_named self && two_cased n) }
-    {
-        if !self.named() {
-            return false;
-        }
-        two_cased(n)
-    }
+impl From<Profile> for session::Profile {
+    ghost from_gives = { λ p r. r ≡ profile_of p };
 
-    pub(crate) fn to_core(self) -> session::Profile
-        ensures { result ≡ profile_of self }
-    {
+    fn from(profile: Profile) -> session::Profile {
         session::Profile {
-            cipher: cipher_of(self.cipher),
-            integrity: integrity_of(self.integrity, self.rate),
-            tag_len: self.tag_len,
-        }
-    }
-
-    fn from_core(profile: session::Profile) -> Profile
-        ensures { result ≡ plain_profile profile }
-    {
-        let cipher = profile.cipher;
-        let integrity = profile.integrity;
-        Profile {
-            cipher: cipher_number(cipher),
-            integrity: integrity_number(integrity),
-            rate: integrity_rate(integrity),
+            cipher: cipher_of(profile.cipher),
+            integrity: integrity_of(profile.integrity, profile.rate),
             tag_len: profile.tag_len,
         }
     }
 }
 
-impl Session {
-    fn to_core(self) -> session::Session
-        ensures { result ≡ session_of self }
-    {
-        let profile = self.profile;
-        let mki = self.mki;
-        let media = self.media;
-        let control = self.control;
-        session::Session {
-            settings: session::Settings {
-                profile: profile.to_core(),
-                ssrc: self.ssrc,
-                mki,
-                mki_len: self.mki_len,
-            },
-            media,
-            control,
-        }
-    }
+impl From<session::Profile> for Profile {
+    ghost from_gives = { λ p r. r ≡ plain_profile p };
 
-    fn from_core(session: session::Session) -> Session
-        ensures { result ≡ plain_session session }
-    {
-        let settings = session.settings;
-        let profile = settings.profile;
-        let mki = settings.mki;
-        let media = session.media;
-        let control = session.control;
-        Session {
-            profile: Profile::from_core(profile),
-            ssrc: settings.ssrc,
-            mki,
-            mki_len: settings.mki_len,
-            media,
-            control,
+    fn from(profile: session::Profile) -> Profile {
+        Profile {
+            cipher: cipher_number(profile.cipher),
+            integrity: integrity_number(profile.integrity),
+            rate: integrity_rate(profile.integrity),
+            tag_len: profile.tag_len,
         }
     }
 }
 
-// ---- contexts
+impl From<Session> for session::Session {
+    ghost from_gives = { λ s r. r ≡ session_of s };
 
-impl Window {
-    fn to_core(self) -> replay::window::Window
-        ensures { result ≡ window_of self }
-    {
-        let highest = highest_of(self.has_highest, self.highest);
-        let words = self.words;
-        replay::window::Window { highest, words }
+    fn from(session: Session) -> session::Session {
+        let mki = session.mki;
+        session::Session {
+            settings: session::Settings {
+                profile: session::Profile::from(session.profile),
+                ssrc: session.ssrc,
+                mki,
+                mki_len: session.mki_len,
+            },
+            media: session.media,
+            control: session.control,
+        }
     }
+}
 
-    fn from_core(window: replay::window::Window) -> Window
-        ensures { result ≡ plain_window window }
-    {
-        let highest = window.highest;
-        let words = window.words;
-        Window {
-            has_highest: has_highest(highest),
-            highest: highest_index(highest),
+impl From<session::Session> for Session {
+    ghost from_gives = { λ s r. r ≡ plain_session s };
+
+    fn from(session: session::Session) -> Session {
+        let settings = session.settings;
+        let mki = settings.mki;
+        Session {
+            profile: Profile::from(settings.profile),
+            ssrc: settings.ssrc,
+            mki,
+            mki_len: settings.mki_len,
+            media: session.media,
+            control: session.control,
+        }
+    }
+}
+
+// ---- contexts. One with a number that no enum has is none: every call on it is SETUP.
+
+impl From<Window> for replay::window::Window {
+    ghost from_gives = { λ w r. r ≡ window_of w };
+
+    fn from(plain: Window) -> replay::window::Window {
+        let words = plain.words;
+        replay::window::Window {
+            highest: marked(plain.has_highest, plain.highest),
             words,
         }
     }
 }
 
-impl Sender {
-    // Whether each number of an enum is one.
-    pub(crate) fn named(self) -> bool
-        ensures { result ≡ sender_named self }
-    {
-        let session = self.session;
-        let profile = session.profile;
-        profile.named_with(self.has_last)
-    }
+impl From<replay::window::Window> for Window {
+    ghost from_gives = { λ w r. r ≡ plain_window w };
 
-    pub(crate) fn to_core(self) -> srtp::Sender
-        requires { sender_named self ≡ true }
-        ensures { result ≡ sender_of self }
-    {
-        let session = self.session;
-        srtp::Sender {
-            session: session.to_core(),
-            media: replay::index::MediaSender {
-                last: last_of(self.has_last, self.last_index),
-            },
-            control: replay::index::ControlSender {
-                sent: self.control_sent,
-            },
+    fn from(window: replay::window::Window) -> Window {
+        let words = window.words;
+        Window {
+            has_highest: mark_of(window.highest),
+            highest: window.highest.unwrap_or(0),
+            words,
         }
     }
+}
 
-    pub(crate) fn from_core(sender: srtp::Sender) -> Sender
-        ensures { result ≡ plain_sender sender }
-    {
-        let session = sender.session;
-        let media = sender.media;
-        let last = media.last;
+impl TryFrom<Sender> for srtp::Sender {
+    type Error = Refusal;
+
+    ghost try_from_gives = { λ c r. r ≡ cond (sender_named c) (Ok (sender_of c)) (Err Setup) };
+
+    #[tactic(auto, unfolding(crate::specs::Plain::sender_of))]
+    fn try_from(sender: Sender) -> Result<srtp::Sender, Refusal> {
+        if !(sender.session.profile.named() && two_cased(sender.has_last)) {
+            return Err(Refusal::Setup);
+        }
+        Ok(srtp::Sender {
+            session: session::Session::from(sender.session),
+            media: MediaSender {
+                last: marked(sender.has_last, sender.last_index),
+            },
+            control: ControlSender {
+                sent: sender.control_sent,
+            },
+        })
+    }
+}
+
+impl From<srtp::Sender> for Sender {
+    ghost from_gives = { λ c r. r ≡ plain_sender c };
+
+    #[tactic(auto, unfolding(crate::specs::Plain::plain_sender))]
+    fn from(sender: srtp::Sender) -> Sender {
         Sender {
-            session: Session::from_core(session),
-            has_last: has_last(last),
-            last_index: last_index(last),
+            session: Session::from(sender.session),
+            has_last: mark_of(sender.media.last),
+            last_index: sender.media.last.unwrap_or(0),
             control_sent: sender.control.sent,
         }
     }
 }
 
-impl Receiver {
-    // Whether each number of an enum is one.
-    pub(crate) fn named(self) -> bool
-        ensures { result ≡ receiver_named self }
-    {
-        let session = self.session;
-        let profile = session.profile;
-        if !profile.named() {
-            return false;
-        }
-        both_two_cased(self.media.has_highest, self.control.has_highest)
-    }
+impl TryFrom<Receiver> for srtp::Receiver {
+    type Error = Refusal;
 
-    pub(crate) fn to_core(self) -> srtp::Receiver
-        requires { receiver_named self ≡ true }
-        ensures { result ≡ receiver_of self }
-    {
-        let session = self.session;
-        let media = self.media;
-        let control = self.control;
-        srtp::Receiver {
-            session: session.to_core(),
-            rollover: self.rollover,
-            media: media.to_core(),
-            control: control.to_core(),
-        }
-    }
+    ghost try_from_gives = { λ c r. r ≡ cond (receiver_named c) (Ok (receiver_of c)) (Err Setup) };
 
-    pub(crate) fn from_core(receiver: srtp::Receiver) -> Receiver
-        ensures { result ≡ plain_receiver receiver }
-    {
-        let session = receiver.session;
-        let media = receiver.media;
-        let control = receiver.control;
-        Receiver {
-            session: Session::from_core(session),
+    #[tactic(auto, unfolding(crate::specs::Plain::receiver_of))]
+    fn try_from(receiver: Receiver) -> Result<srtp::Receiver, Refusal> {
+        let windows_named = two_cased(receiver.media.has_highest)
+            && two_cased(receiver.control.has_highest);
+        if !(receiver.session.profile.named() && windows_named) {
+            return Err(Refusal::Setup);
+        }
+        Ok(srtp::Receiver {
+            session: session::Session::from(receiver.session),
             rollover: receiver.rollover,
-            media: Window::from_core(media),
-            control: Window::from_core(control),
+            media: replay::window::Window::from(receiver.media),
+            control: replay::window::Window::from(receiver.control),
+        })
+    }
+}
+
+impl From<srtp::Receiver> for Receiver {
+    ghost from_gives = { λ c r. r ≡ plain_receiver c };
+
+    #[tactic(auto, unfolding(crate::specs::Plain::plain_receiver))]
+    fn from(receiver: srtp::Receiver) -> Receiver {
+        Receiver {
+            session: Session::from(receiver.session),
+            rollover: receiver.rollover,
+            media: Window::from(receiver.media),
+            control: Window::from(receiver.control),
         }
     }
 }

@@ -1,8 +1,7 @@
 -- Answers of a trace read back: the fields before the buffer, and what they tell of the record. Assumes nothing.
-use Rattle.std.specs.Prelude.{ℕ, cond, ◌&&◌, List, [], ◌∷◌, eqb, leb, ltb}
-use Rattle.srtp.specs.Refusals.{number_of}
+use Rattle.std.specs.Prelude.{ℕ, cond, ◌&&◌, List, eqb, leb, ltb, Option, None, Some}
+use Rattle.srtp.specs.Refusals.{refusal_of as numbered}
 use Rattle.srtp.specs.declared.Refusal.{Refusal}
-use Rattle.srtp.specs.declared.Refusal.TheVariants.{Setup, Long, Shape, Stream, Room, Key, Order, Spent, Old, Repeat, Forged}
 use Rattle.trace_records.specs.declared.Head.{Head}
 use Rattle.trace_records.specs.Layouts.{byte_at, number_at}
 use Rattle.tell.specs.declared.reading.Front.{Front}
@@ -18,14 +17,13 @@ front_of b =
       room = number_at 2 12 b;
     }
 
--- the refusal with this number, among some
-abbrev pub refusal_among : List Refusal → ℕ → Told
-refusal_among [] n = Unknown
-refusal_among (r ∷ rs) n = cond (eqb n (number_of r)) (Refused r) (refusal_among rs n)
+-- the refusal with this number in the table, if one has it
+abbrev pub told_refusal : Option Refusal → Told
+told_refusal None = Unknown
+told_refusal (Some r) = Refused r
 
 unfoldable pub refusal_of : ℕ → Told
-refusal_of n =
-    refusal_among (Setup ∷ Long ∷ Shape ∷ Stream ∷ Room ∷ Key ∷ Order ∷ Spent ∷ Old ∷ Repeat ∷ Forged ∷ []) n
+refusal_of n = told_refusal (numbered n)
 
 -- ops 1 and 2 set up, 3 and 4 send, 5 and 6 receive
 abbrev pub finished : (op : ℕ) → Head → Told

@@ -3,52 +3,44 @@
 #![tactic(auto)]
 
 mod reading;
-mod say;
 mod sum;
 
 ghost use Rattle.std.specs.Prelude.{◌≤◌, length};
 
-use std::io;
+use reading::{Front, Told};
 use std::io::Read;
+use std::{io, iter};
 use sum::Sum;
-use trace_records::HEAD_LEN;
+use trace_records::{HEAD_LEN, Op};
 
-// Reads one answer and says what it tells: the counts after it. There are none where the input ends, in an answer too, or a read fails.
-fn tell_one(
-    rt: &impl Print,
-    input: &mut impl Read,
-    sum: Sum,
-    buffer: &mut [u8],
-) -> io::Result<Option<Sum>>
+// Reads one answer. There is none where the input ends, in an answer too, or a read fails.
+fn read_answer(input: &mut impl Read, buffer: &mut [u8]) -> Option<Front>
     requires { 65535 ≤ length buffer.old }
 {
     let mut bytes = [0u8; HEAD_LEN];
-    if input.read_exact(&mut bytes).is_err() {
-        return Ok(None);
-    }
+    input.read_exact(&mut bytes).ok()?;
     let front = reading::read_front(bytes);
-    let room = front.room;
-    if input.read_exact(&mut buffer[..room]).is_err() {
-        return Ok(None);
-    }
-    let op = front.op;
-    let head = front.head;
-    let told = reading::told_of(op, head);
-    let next = sum.with(told);
-    say::answer(rt, next.answers, op, told)?;
-    Ok(Some(next))
+    input.read_exact(&mut buffer[..front.room]).ok()?;
+    Some(front)
 }
 
-// As in `trace`, the loop counts its turns, since nothing says that the input ends.
+// The line of an answer: the number of its record, the call, and what came of it.
+fn say(rt: &impl Print, record: u64, op: u8, told: Told) -> io::Result<()> {
+    match Op::try_from(op) {
+        Ok(call) => println!(rt; "{record} {call}: {told}"),
+        Err(unknown) => println!(rt; "{record} {unknown}: {told}"),
+    }
+}
+
+// A proved loop has to end, and nothing says that the input does: the answers are counted, up to a number that no run uses up.
 fn main(rt: HostRuntime) -> io::Result<()> {
     let mut input = rt.stdin();
     let mut buffer = [0u8; 65536];
     let mut sum = Sum::none();
-    for _ in 0..u64::MAX {
-        let Some(next) = tell_one(&rt, &mut input, sum, &mut buffer)? else {
-            break;
-        };
-        sum = next;
+    for front in iter::from_fn(|| read_answer(&mut input, &mut buffer)).take(usize::MAX) {
+        let told = reading::told_of(front.op, front.head);
+        sum = sum.with(told);
+        say(&rt, sum.answers, front.op, told)?;
     }
-    say::sum(&rt, sum)
+    println!(rt; "{sum}")
 }

@@ -3,9 +3,11 @@ ghost use Rattle.std.specs.Prelude.{◌≡◌, ◌≤◌};
 ghost use Rattle.tell.specs.Reading.{front_of, refusal_of, told_of};
 
 use srtp::Refusal;
-use trace_records::{HEAD_LEN, Head};
+use std::fmt;
+use trace_records::{Call, HEAD_LEN, Head, Op};
 
-// What stands before an answer's buffer: the record's op, the head, and the size of the buffer.
+// What stands before an answer's buffer: the record's op, the head, and the size of the buffer. The op stays the byte that was read: `told_of`
+// and `front-back` speak of any, and one that names no call is printed as it is.
 #[derive(Clone, Copy)]
 pub struct Front {
     pub op: u8,
@@ -28,14 +30,28 @@ pub enum Told {
     Unknown,
 }
 
+impl fmt::Display for Told {
+    fn fmt<W: fmt::Write>(&self, f: &mut fmt::Formatter<W>) -> fmt::Result {
+        match *self {
+            Told::Ready => write!(f, "ready"),
+            Told::Sent { len, index } => write!(f, "sent, {len} bytes at index {index}"),
+            Told::Accepted { len, index } => write!(f, "let in, {len} bytes at index {index}"),
+            Told::Refused(refusal) => write!(f, "refused: {refusal}"),
+            Told::Misfit => write!(f, "not a record of the format"),
+            Told::Unknown => write!(f, "not an answer of the format"),
+        }
+    }
+}
+
 // Reads the bytes before an answer's buffer.
+#[tactic(auto, unfolding(crate::specs::Reading::front_of))]
 pub fn read_front(bytes: [u8; HEAD_LEN]) -> Front
     ensures { (result ≡ front_of bytes) × (result.room ≤ 65535) }
 {
     let number = bytes[1];
-    let index = octets::load64(&bytes, 2);
-    let len = octets::load16(&bytes, 10) as usize;
-    let room = octets::load16(&bytes, 12) as usize;
+    let index = octets::load(&bytes, 2);
+    let len = usize::from(octets::load::<u16, 2>(&bytes, 10));
+    let room = usize::from(octets::load::<u16, 2>(&bytes, 12));
     let head = Head { number, index, len };
     Front {
         op: bytes[0],
@@ -45,49 +61,28 @@ pub fn read_front(bytes: [u8; HEAD_LEN]) -> Front
 }
 
 // The refusal of a number in the table.
+#[tactic(auto, unfolding(crate::specs::Reading::refusal_of))]
 fn refusal_of(number: u8) -> Told
     ensures { result ≡ refusal_of number }
 {
-    match number {
-        1 => Told::Refused(Refusal::Setup),
-        2 => Told::Refused(Refusal::Long),
-        3 => Told::Refused(Refusal::Shape),
-        4 => Told::Refused(Refusal::Stream),
-        5 => Told::Refused(Refusal::Room),
-        6 => Told::Refused(Refusal::Key),
-        7 => Told::Refused(Refusal::Order),
-        8 => Told::Refused(Refusal::Spent),
-        9 => Told::Refused(Refusal::Old),
-        10 => Told::Refused(Refusal::Repeat),
-        11 => Told::Refused(Refusal::Forged),
-        _ => Told::Unknown,
+    match Refusal::try_from(number) {
+        Ok(refusal) => Told::Refused(refusal),
+        Err(_) => Told::Unknown,
     }
 }
 
 // What the head of the answer to an op tells.
+#[tactic(auto, unfolding(crate::specs::Reading::told_of))]
 pub fn told_of(op: u8, head: Head) -> Told
     ensures { result ≡ told_of op head }
 {
-    let number = head.number;
-    if number == 255 {
-        return Told::Misfit;
+    let Head { number, index, len } = head;
+    match (number, Op::try_from(op)) {
+        (Head::MISFIT, _) => Told::Misfit,
+        (_, Err(_)) => Told::Unknown,
+        (0, Ok(Op::SetUpSender | Op::SetUpReceiver)) => Told::Ready,
+        (0, Ok(Op::Call(Call::SendMedia | Call::SendControl))) => Told::Sent { len, index },
+        (0, Ok(Op::Call(_))) => Told::Accepted { len, index },
+        (_, Ok(_)) => refusal_of(number),
     }
-    if op < 1 {
-        return Told::Unknown;
-    }
-    if op > 6 {
-        return Told::Unknown;
-    }
-    if number > 0 {
-        return refusal_of(number);
-    }
-    if op < 3 {
-        return Told::Ready;
-    }
-    let len = head.len;
-    let index = head.index;
-    if op < 5 {
-        return Told::Sent { len, index };
-    }
-    Told::Accepted { len, index }
 }

@@ -1,25 +1,17 @@
 // How many answers there were, and of which kind.
 ghost use Rattle.std.specs.Prelude.{◌≡◌};
-ghost use Rattle.tell.specs.Sums.{one_more, none, counted};
+ghost use Rattle.tell.specs.Sums.{none, counted};
 
 use crate::reading::Told;
+use std::fmt;
 
+// The counts stay at their top, so that they never wrap. No run gets there.
 #[derive(Clone, Copy)]
 pub struct Sum {
     pub answers: u64,
     pub sent: u64,
     pub accepted: u64,
     pub refused: u64,
-}
-
-// A count that stays at its top, so that it never wraps. No run gets there.
-fn one_more(n: u64) -> u64
-    ensures { result ≡ one_more n }
-{
-    if n == u64::MAX {
-        return n;
-    }
-    n + 1
 }
 
 impl Sum {
@@ -35,31 +27,33 @@ impl Sum {
     }
 
     // The counts with one answer more.
+    #[tactic(auto, unfolding(crate::specs::Sums::counted))]
     pub fn with(self, told: Told) -> Sum
         ensures { result ≡ counted self told }
     {
         let mut sum = self;
-        let answers = one_more(self.answers);
-        sum.answers = answers;
+        sum.answers = self.answers.saturating_add(1);
         match told {
-            Told::Sent { len: _, index: _ } => {
-                let sent = one_more(self.sent);
-                sum.sent = sent;
-                sum
-            }
-            Told::Accepted { len: _, index: _ } => {
-                let accepted = one_more(self.accepted);
-                sum.accepted = accepted;
-                sum
-            }
-            Told::Refused(_) => {
-                let refused = one_more(self.refused);
-                sum.refused = refused;
-                sum
-            }
-            Told::Ready => sum,
-            Told::Misfit => sum,
-            Told::Unknown => sum,
+            Told::Sent { .. } => sum.sent = self.sent.saturating_add(1),
+            Told::Accepted { .. } => sum.accepted = self.accepted.saturating_add(1),
+            Told::Refused(_) => sum.refused = self.refused.saturating_add(1),
+            Told::Ready | Told::Misfit | Told::Unknown => (),
         }
+        sum
+    }
+}
+
+impl fmt::Display for Sum {
+    fn fmt<W: fmt::Write>(&self, f: &mut fmt::Formatter<W>) -> fmt::Result {
+        let (answers, sent, accepted, refused) = (
+            self.answers,
+            self.sent,
+            self.accepted,
+            self.refused,
+        );
+        write!(
+            f,
+            "sum of {answers} answers: {sent} sent, {accepted} let in, {refused} refused"
+        )
     }
 }

@@ -1,48 +1,23 @@
--- One law for each way out of the functions of `src/answers.rt`: what the code leaves there is what the definition says. Assumes nothing.
-use mathlib.Core.List.{List, [], ◌∷◌, ◌++◌, append-nil}
-use mathlib.Core.Path.{◌≡◌, refl, sym, ap, ◌∙◌}
-use Prim.Native.Nat.{ℕ, ◌≤◌}
-use native.Mathlib.Omega.{arith}
-use lib.ListN.{length, set}
+-- What the code of `src/answers.rt` and `src/lib.rt` leaves is what the definitions say. Assumes nothing.
+use Rattle.std.proofs.Common.{◌≡◌, refl, sym, ap, ◌∙◌, ℕ, ◌+◌, ◌-◌, ◌≤◌, arith, List, [], ◌∷◌, ◌++◌, length, take, drop, set, append_assoc, append-nil, length-append, length-take-le, length-drop, take_all, take-append-drop, drop_of_length-le, Option, None, Some, unwrap_or}
+use Rattle.std.proofs.Math.Seq.{drop_at, drop-drop}
 use Rattle.octets.proofs.BufferLaws.{over_at-over}
 use Rattle.octets.specs.BigEndian.{to_bytes}
 use Rattle.octets.specs.Buffer.{over, over_at}
-use Rattle.srtp.specs.Contexts.{closed_sender, closed_receiver}
-use Rattle.srtp.specs.Refusals.{number_of}
-use Rattle.srtp.specs.declared.Answer.{Answer}
-use Rattle.srtp.specs.declared.Answer.TheVariants as answer
-use Rattle.srtp.specs.declared.Receiver.{Receiver}
-use Rattle.srtp.specs.declared.Refusal.{Refusal}
-use Rattle.srtp.specs.declared.Sender.{Sender}
-use Rattle.srtp.specs.declared.SetUpAnswer.{SetUpAnswer}
-use Rattle.srtp.specs.declared.SetUpAnswer.TheVariants as setup
-use Rattle.trace_records.specs.Answers.{head_bytes, number_alone, call_head, set_up_head}
-use Rattle.trace_records.specs.Records.{start, reply, Shows}
+use Rattle.trace_records.specs.Answers.{head_bytes, misfit_head}
+use Rattle.trace_records.specs.Records.{Reply, Made, Makes, Shows}
 use Rattle.trace_records.specs.declared.Called.{Called}
 use Rattle.trace_records.specs.declared.Contexts.{Contexts}
 use Rattle.trace_records.specs.declared.Head.{Head}
 
--- ---- call_head, set_up_head
-pub call-sent : (a : Answer) (n i : ℕ) → a ≡ answer.Sent n i → record { number = 0; index = i; len = n } ≡ call_head a
-call-sent a n i e = rw e
-
-pub call-refused : (a : Answer) (r : Refusal) (k : ℕ) → a ≡ answer.Refused r → k ≡ number_of r → number_alone k ≡ call_head a
-call-refused a r k e f = rw (e, f)
-
-pub set-up-ready : (a : SetUpAnswer) → a ≡ setup.Ready → number_alone 0 ≡ set_up_head a
-set-up-ready a e = rw e
-
-pub set-up-refused : (a : SetUpAnswer) (r : Refusal) (k : ℕ) → a ≡ setup.Refused r → k ≡ number_of r → number_alone k ≡ set_up_head a
-set-up-refused a r k e f = rw (e, f)
-
--- ---- put_pair, put_head
-pub pair_put : (d : List ℕ) (a b : ℕ) → 2 ≤ length d → set (set d 0 a) 1 b ≡ over (a ∷ b ∷ []) d
+-- ---- Head::put
+pair_put : (d : List ℕ) (a b : ℕ) → 2 ≤ length d → set (set d 0 a) 1 b ≡ over (a ∷ b ∷ []) d
 unfolding over
 pair_put [] a b h = let z : ⊥ = omega arith in absurd z
 pair_put (x ∷ []) a b h = let z : ⊥ = omega arith in absurd z
 pair_put (x ∷ (y ∷ d)) a b h = refl
 
-module _ (op room : ℕ) (h : Head) (d p i l r : List ℕ) where
+module _ (op room : ℕ) (h : Head) (d i l r : List ℕ) where
   abbrev pair : List ℕ
   pair = op ∷ h.number ∷ []
 
@@ -52,32 +27,58 @@ module _ (op room : ℕ) (h : Head) (d p i l r : List ℕ) where
   abbrev len : List ℕ
   len = to_bytes 2 h.len
 
-  pub head-put : p ≡ over (op ∷ h.number ∷ []) d → i ≡ over_at 2 (to_bytes 8 h.index) p → l ≡ over_at 10 (to_bytes 2 h.len) i
-      → r ≡ over_at 12 (to_bytes 2 room) l → r ≡ over (head_bytes op h room) d
+  pub head_put : 2 ≤ length d → i ≡ over_at 2 (to_bytes 8 h.index) (set (set d 0 op) 1 h.number)
+      → l ≡ over_at 10 (to_bytes 2 h.len) i → r ≡ over_at 12 (to_bytes 2 room) l → r ≡ over (head_bytes op h room) d
   unfolding head_bytes
-  head-put ep ei el er =
-      let e : i ≡ over (pair ++ index) d = ei ∙ ap (over_at 2 index) ep ∙ over_at-over 2 pair index d refl in
+  head_put g ei el er =
+      let e : i ≡ over (pair ++ index) d = ei ∙ ap (over_at 2 index) (pair_put d op h.number g) ∙ over_at-over 2 pair index d refl in
       let f : l ≡ over ((pair ++ index) ++ len) d = el ∙ ap (over_at 10 len) e ∙ over_at-over 10 (pair ++ index) len d refl in
       er ∙ ap (over_at 12 (to_bytes 2 room)) f ∙ over_at-over 12 ((pair ++ index) ++ len) (to_bytes 2 room) d refl
 
--- ---- Contexts::without_buffer
-pub head-length : (op room : ℕ) (h : Head) → length (head_bytes op h room) ≡ 14
+head-length : (op room : ℕ) (h : Head) → length (head_bytes op h room) ≡ 14
 unfolding head_bytes
 head-length op room h = refl
 
-pub bare : (op : ℕ) (h : Head) (c : Contexts) (d e : List ℕ) → e ≡ over (head_bytes op h 0) d
-    → Shows (reply op h [] c) d (record { len = 14; next = c }) e
-bare op h c d e w =
-    record {
-      len = sym (ap length (append-nil (head_bytes op h 0)) ∙ head-length op 0 h);
-      next = refl;
-      written = w ∙ ap (λ (b : List ℕ). over b d) (sym (append-nil (head_bytes op h 0)));
-    }
+-- ---- Contexts::answer
+-- 14 bytes of head written before a buffer x, of which the first `room` bytes are the answer's and the rest is as it was
+head-before : (hs d x : List ℕ) (room : ℕ) → length hs ≡ 14 → 14 ≤ length d → room ≤ length x → drop room x ≡ drop room (drop 14 d)
+    → over hs (take 14 d ++ x) ≡ over (hs ++ take room x) d
+unfolding over
+head-before hs d x room lh g lx e =
+    let l : length (take 14 d) ≡ 14 = length-take-le 14 d g in
+    let m : length (hs ++ take room x) ≡ 14 + room = rw (length-append hs (take room x), lh, length-take-le room x lx) refl in
+    let y : x ≡ take room x ++ drop room (drop 14 d) = sym (take-append-drop room x) ∙ ap (λ r. take room x ++ r) e in
+    rw (lh, drop_at (take 14 d) x 14 l, m) (ap (λ r. hs ++ r) y ∙ rw (append_assoc, drop-drop) refl)
 
--- ---- Contexts::closed
-pub closed-both : (s : Sender) (r : Receiver) → s ≡ closed_sender → r ≡ closed_receiver → record { sender = s; receiver = r } ≡ start
-closed-both s r e f = rw (e, f)
+module _ (a : Reply) (op : ℕ) (d x : List ℕ) where
+  -- what a record leaves in x, the part of d behind its first 14 bytes, and the head before that
+  made-shown : (k : Called) (room : ℕ) → Made a op k room (drop 14 d) x → 14 ≤ length d → room ≤ length x → (d' : List ℕ)
+      → d' ≡ over (head_bytes op k.head room) (take 14 d ++ x) → Shows a d (record { len = 14 + room; next = k.next }) d'
+  made-shown k room m g f d' w =
+      let n : length (take room x) ≡ room = length-take-le room x f in
+      let hl : length (head_bytes op k.head room) ≡ 14 = head-length op room k.head in
+      rw (m.reply, n) (record {
+        len = rw (length-append (head_bytes op k.head room) (take room x), hl, n) refl;
+        next = refl;
+        written = w ∙ head-before (head_bytes op k.head room) d x room hl g f m.rest;
+      })
 
--- ---- Contexts::after_sender, Contexts::after_receiver
-pub head-is : (h k : Head) (c : Contexts) → h ≡ k → ◌≡◌ {A = Called} (record { head = h; next = c }) (record { head = k; next = c })
-head-is h k c e = rw e
+  -- a record that does not fit leaves an answer too, with no buffer
+  made-or : (c : Contexts) (h : Head) → h ≡ misfit_head → (o : Option (Called × ℕ)) → Makes a op c (drop 14 d) o x
+      → let v = unwrap_or o (record { head = h; next = c }, 0) in Made a op v.0 v.1 (drop 14 d) x
+  made-or c h e (Some v) m = m
+  made-or c h e None m = rw e (record { reply = m.reply; rest = m.buffer; fits = omega arith; short = omega arith })
+
+  -- the same of the parts as the code lends them
+  pub shown : (c : Contexts) (h : Head) → h ≡ misfit_head → (o : Option (Called × ℕ)) (n : ℕ) → n ≡ length d - 14
+      → Makes a op c (take n (drop 14 d)) o x → 4110 ≤ length d → length x ≡ length (take n (drop 14 d))
+      → (v : Called × ℕ) → v ≡ unwrap_or o (record { head = h; next = c }, 0) → (d' : List ℕ)
+      → d' ≡ over (head_bytes op v.0.head v.1) (take 14 d ++ (x ++ drop n (drop 14 d)))
+      → Shows a d (record { len = 14 + v.1; next = v.0.next }) d'
+  shown c h e o n en m g l v ev d' w =
+      let k : length (drop 14 d) ≤ n = omega (arith, length-drop 14 d) in
+      let y : take n (drop 14 d) ≡ drop 14 d = take_all n (drop 14 d) k in
+      let made : Made a op v.0 v.1 (drop 14 d) x = rw ev (made-or c h e o (rw y at m)) in
+      let fits : v.1 ≤ length x = omega (arith, made.fits, l, ap length y, length-drop 14 d) in
+      made-shown v.0 v.1 made (omega arith) fits d'
+      (w ∙ ap (λ (t : List ℕ). over (head_bytes op v.0.head v.1) (take 14 d ++ t)) (rw (drop_of_length-le (drop 14 d) k) (append-nil x)))

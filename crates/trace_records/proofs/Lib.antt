@@ -1,4 +1,3 @@
 pub mod AnswerLaws
 mod AnswerReturns
-mod SetUpReturns
 mod CallReturns

@@ -1,10 +1,9 @@
 -- Answers as bytes, big end first: op (1), refusal number, 0 or 255 (1), index (8), length (2), size of the outgoing buffer (2), and the
 -- whole outgoing buffer. Assumes nothing.
-use Rattle.std.specs.Prelude.{ℕ, List, ◌∷◌, ◌++◌, length}
+use Rattle.std.specs.Prelude.{ℕ, List, ◌∷◌, ◌++◌, length, Result}
 use Rattle.octets.specs.BigEndian.{to_bytes}
-use Rattle.srtp.specs.Outcomes.{Shown, shown, set_up_shown}
-use Rattle.srtp.specs.declared.Answer.{Answer}
-use Rattle.srtp.specs.declared.SetUpAnswer.{SetUpAnswer}
+use Rattle.srtp.specs.declared.Refusal.{Refusal}
+use Rattle.srtp.specs.Outcomes.{Answer, Shown, shown, set_up_shown}
 use Rattle.trace_records.specs.declared.Head.{Head}
 
 -- bytes before the buffer
@@ -32,5 +31,5 @@ head_of s = record { number = s.number; index = s.index; len = s.len }
 abbrev pub call_head : Answer → Head
 call_head a = head_of (shown a)
 
-abbrev pub set_up_head : SetUpAnswer → Head
+abbrev pub set_up_head : Result Unit Refusal → Head
 set_up_head a = head_of (set_up_shown a)

@@ -1,17 +1,11 @@
 -- The layouts of records and their bodies, big end first. A place past the end reads as 0, and a body fits its layout if the layout ends within it. Assumes nothing.
-use Rattle.std.specs.Prelude.{ℕ, ◌+◌, ◌≤◌, Bool, cond, ◌&&◌, List, ◌≡◌, eqb, leb, length, take, drop, get_or}
+use Rattle.std.specs.Prelude.{ℕ, ◌+◌, ◌≤◌, Bool, cond, ◌&&◌, List, ◌≡◌, eqb, leb, length, take, drop, get_or, Option, None, Some}
 use Rattle.octets.specs.BigEndian.{from_bytes}
 use Rattle.transforms.specs.declared.Cipher.{Cipher}
 use Rattle.transforms.specs.declared.Cipher.TheVariants.{Null, Aes}
 use Rattle.transforms.specs.declared.Integrity.{Integrity}
 use Rattle.transforms.specs.declared.Integrity.TheVariants.{HmacSha1, Rccm2}
 use Rattle.session.specs.SetUps.{SetUp}
-use Rattle.srtp.specs.declared.LastNumber.{LastNumber}
-use Rattle.srtp.specs.declared.LastNumber.TheVariants as last
-use Rattle.trace_records.specs.declared.setups.CipherField.{CipherField}
-use Rattle.trace_records.specs.declared.setups.CipherField.TheVariants.{Named, Unknown}
-use Rattle.trace_records.specs.declared.setups.IntegrityField.{IntegrityField}
-use Rattle.trace_records.specs.declared.setups.IntegrityField.TheVariants.{Selected, Misfit}
 use Rattle.trace_records.specs.declared.setups.Layout.{Layout}
 
 abbrev pub byte_at : (at : ℕ) → List ℕ → ℕ
@@ -49,8 +43,8 @@ pub record Placed (l : Layout) (b : List ℕ) : Type 0 where
   pub mki : l.mki_at + 1 ≤ l.end
   pub short : l.end ≤ 774
 
-abbrev pub cipher_named : ℕ → CipherField
-cipher_named n = cond (eqb n 0) (Named Null) (cond (eqb n 1) (Named Aes) Unknown)
+abbrev pub cipher_named : ℕ → Option Cipher
+cipher_named n = cond (eqb n 0) (Some Null) (cond (eqb n 1) (Some Aes) None)
 
 unfoldable pub set_up_of : Cipher → Integrity → List ℕ → SetUp
 set_up_of cipher integrity b =
@@ -68,14 +62,18 @@ is_setting id size b = eqb (length b) (2 + size) && (eqb (byte_at 0 b) id && eqb
 
 -- settings: id 1, of length 2, is the rate of RFC 4771's integrity transform, and selects it. Without it the transform is RFC 3711's. Anything
 -- else does not fit: another id or length, a setting that is cut or stands twice.
-abbrev pub settings : List ℕ → IntegrityField
-settings b = cond (eqb (length b) 0) (Selected HmacSha1) (cond (is_setting 1 2 b) (Selected (Rccm2 (number_at 2 2 b))) Misfit)
+abbrev pub settings : List ℕ → Option Integrity
+settings b = cond (eqb (length b) 0) (Some HmacSha1) (cond (is_setting 1 2 b) (Some (Rccm2 (number_at 2 2 b))) None)
+
+-- what the settings from a place on select, if the body reaches it
+abbrev pub settings_from : (at : ℕ) → List ℕ → Option Integrity
+settings_from at b = cond (leb at (length b)) (settings (drop at b)) None
 
 -- what the settings of a body select, if that fits its layout
-unfoldable pub sender_settings : List ℕ → IntegrityField
+unfoldable pub sender_settings : List ℕ → Option Integrity
 sender_settings b =
     let end = (layout_of b).end in
-    cond (leb end (length b)) (settings (drop end b)) Misfit
+    cond (leb end (length b)) (settings (drop end b)) None
 
 -- ---- op 2: the same, before the settings rollover counter (4), known (1: 0 or 1) and last sequence number (2)
 abbrev pub rollover_of : List ℕ → ℕ
@@ -84,13 +82,13 @@ rollover_of b = number_at 4 (layout_of b).end b
 abbrev pub known_at : List ℕ → ℕ
 known_at b = (layout_of b).end + 4
 
-abbrev pub last_number : (at : ℕ) → List ℕ → LastNumber
-last_number at b = cond (eqb (byte_at at b) 0) last.Unknown (last.Known (number_at 2 (at + 1) b))
+abbrev pub last_number : (at : ℕ) → List ℕ → Option ℕ
+last_number at b = cond (eqb (byte_at at b) 0) None (Some (number_at 2 (at + 1) b))
 
-unfoldable pub receiver_settings : List ℕ → IntegrityField
+unfoldable pub receiver_settings : List ℕ → Option Integrity
 receiver_settings b =
     let end = (layout_of b).end + 7 in
-    cond (leb end (length b) && leb (byte_at (known_at b) b) 1) (settings (drop end b)) Misfit
+    cond (leb end (length b) && leb (byte_at (known_at b) b) 1) (settings (drop end b)) None
 
 -- ---- ops 3 to 6: size of the outgoing buffer (2), at most 4,096, and packet
 abbrev pub max_room : ℕ

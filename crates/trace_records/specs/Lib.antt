@@ -1,3 +1,4 @@
 pub mod Answers
 pub mod Layouts
+pub mod Ops
 pub mod Records

@@ -1,25 +1,19 @@
 -- A record of a trace, op and body, and its answer: bytes, and the next contexts. Assumes nothing.
-use Rattle.std.specs.Prelude.{ℕ, ◌≤◌, cond, ◌&&◌, List, [], ◌≡◌, eqb, leb, ltb, length, replicate}
+use Rattle.std.specs.Prelude.{ℕ, ◌≤◌, cond, ◌&&◌, List, [], ◌≡◌, eqb, leb, ltb, length, take, drop, replicate, Option, None, Some, MatchOption, Err}
 use Rattle.octets.specs.Buffer.{over}
 use Rattle.srtp.specs.Outcomes.{Outcome, answer_of, next_of, buffer_of}
 use Rattle.srtp.specs.Contexts.{closed_sender, closed_receiver, set_up_sender, set_up_receiver}
 use Rattle.srtp.specs.Calls.{send_media, send_control, receive_media, receive_control}
+use Rattle.transforms.specs.declared.Cipher.{Cipher}
 use Rattle.transforms.specs.declared.Integrity.{Integrity}
-use Rattle.srtp.specs.declared.LastNumber.{LastNumber}
+use Rattle.srtp.specs.declared.Made as core
 use Rattle.srtp.specs.declared.Receiver.{Receiver}
-use Rattle.srtp.specs.declared.ReceiverSetUp.{ReceiverSetUp}
 use Rattle.srtp.specs.declared.Refusal.TheVariants.{Setup}
 use Rattle.srtp.specs.declared.Sender.{Sender}
-use Rattle.srtp.specs.declared.SenderSetUp.{SenderSetUp}
-use Rattle.srtp.specs.declared.SetUpAnswer.TheVariants.{Refused}
 use Rattle.trace_records.specs.declared.Head.{Head}
 use Rattle.trace_records.specs.declared.Contexts.{Contexts}
 use Rattle.trace_records.specs.declared.Called.{Called}
 use Rattle.trace_records.specs.declared.Answered.{Answered}
-use Rattle.trace_records.specs.declared.setups.CipherField.{CipherField}
-use Rattle.trace_records.specs.declared.setups.CipherField.TheVariants.{Named, Unknown}
-use Rattle.trace_records.specs.declared.setups.IntegrityField.{IntegrityField}
-use Rattle.trace_records.specs.declared.setups.IntegrityField.TheVariants.{Selected, Misfit}
 use Rattle.trace_records.specs.Answers.{answer_bytes, misfit_head, call_head, set_up_head}
 use Rattle.trace_records.specs.Layouts.{byte_at, cipher_named, set_up_of, sender_settings, rollover_of, known_at, last_number, receiver_settings, room_of, packet_of, call_fits}
 
@@ -46,26 +40,26 @@ abbrev pub misfit : (op : ℕ) → Contexts → Reply
 misfit op c = reply op misfit_head [] c
 
 -- ---- set-ups: a refused one leaves the closed context of its kind
-unfoldable pub sender_of : CipherField → Integrity → List ℕ → SenderSetUp
-sender_of (Named cipher) integrity b = set_up_sender (set_up_of cipher integrity b)
-sender_of Unknown integrity b = record { answer = Refused Setup; context = closed_sender }
+unfoldable pub sender_of : Option Cipher → Integrity → List ℕ → core.Made Sender
+sender_of (Some cipher) integrity b = set_up_sender (set_up_of cipher integrity b)
+sender_of None integrity b = record { answer = Err Setup; context = closed_sender }
 
-unfoldable pub receiver_of : CipherField → Integrity → List ℕ → (rollover : ℕ) → LastNumber → ReceiverSetUp
-receiver_of (Named cipher) integrity b rollover number = set_up_receiver (set_up_of cipher integrity b) rollover number
-receiver_of Unknown integrity b rollover number = record { answer = Refused Setup; context = closed_receiver }
+unfoldable pub receiver_of : Option Cipher → Integrity → List ℕ → (rollover : ℕ) → Option ℕ → core.Made Receiver
+receiver_of (Some cipher) integrity b rollover number = set_up_receiver (set_up_of cipher integrity b) rollover number
+receiver_of None integrity b rollover number = record { answer = Err Setup; context = closed_receiver }
 
 -- under what the settings select, if they and the body fit
-unfoldable pub sender_under : IntegrityField → Contexts → (op : ℕ) → (body : List ℕ) → Reply
-sender_under (Selected integrity) c op b =
+unfoldable pub sender_under : Option Integrity → Contexts → (op : ℕ) → (body : List ℕ) → Reply
+sender_under (Some integrity) c op b =
     let made = sender_of (cipher_named (byte_at 1 b)) integrity b in
     reply op (set_up_head made.answer) [] (with_sender c made.context)
-sender_under Misfit c op b = misfit op c
+sender_under None c op b = misfit op c
 
-unfoldable pub receiver_under : IntegrityField → Contexts → (op : ℕ) → (body : List ℕ) → Reply
-receiver_under (Selected integrity) c op b =
+unfoldable pub receiver_under : Option Integrity → Contexts → (op : ℕ) → (body : List ℕ) → Reply
+receiver_under (Some integrity) c op b =
     let made = receiver_of (cipher_named (byte_at 1 b)) integrity b (rollover_of b) (last_number (known_at b) b) in
     reply op (set_up_head made.answer) [] (with_receiver c made.context)
-receiver_under Misfit c op b = misfit op c
+receiver_under None c op b = misfit op c
 
 unfoldable pub sender_set_up : Contexts → (op : ℕ) → (body : List ℕ) → Reply
 sender_set_up c op b = sender_under (sender_settings b) c op b
@@ -124,7 +118,22 @@ answered c op b =
     (cond (eqb op 2) (receiver_set_up c op b)
     (cond (leb 3 op && leb op 6) (called c op b) (misfit op c))))
 
--- ---- what the code promises: the answer's bytes at the start of the buffer that it is given, their number, and the next contexts
+-- ---- what the code promises of a record before the answer's head is written: the answer's buffer stands at the start of the one that it is given
+pub record Made (a : Reply) (op : ℕ) (k : Called) (room : ℕ) (before after : List ℕ) : Type 0 where
+  pub reply : a ≡ reply op k.head (take room after) k.next
+  pub rest : drop room after ≡ drop room before
+  pub fits : room ≤ 4096
+  pub short : k.head.len ≤ room
+
+-- or nothing is written where the record does not fit
+pub record Untouched (a : Reply) (op : ℕ) (c : Contexts) (before after : List ℕ) : Type 0 where
+  pub reply : a ≡ misfit op c
+  pub buffer : after ≡ before
+
+abbrev pub Makes : (a : Reply) (op : ℕ) → Contexts → (before : List ℕ) → Option (Called × ℕ) → (after : List ℕ) → Type 0
+Makes a op c before r after = MatchOption r (Untouched a op c before after) (λ v. Made a op v.0 v.1 before after)
+
+-- ---- and of the whole: the answer's bytes at the start of the buffer that it is given, their number, and the next contexts
 pub record Shows (a : Reply) (before : List ℕ) (r : Answered) (after : List ℕ) : Type 0 where
   pub len : r.len ≡ length a.bytes
   pub next : r.next ≡ a.next

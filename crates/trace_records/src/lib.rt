@@ -4,12 +4,14 @@
 
 mod answers;
 mod calls;
+mod ops;
 mod setups;
 
 ghost use Rattle.std.specs.Prelude.{◌≡◌, ◌≤◌, length};
 ghost use Rattle.trace_records.specs.Layouts.{body_length};
-ghost use Rattle.trace_records.specs.Records.{start, answered, Shows};
+ghost use Rattle.trace_records.specs.Records.{start, answered, Makes, Shows};
 
+pub use ops::{Call, Op, UnknownOp};
 use srtp::{Receiver, Sender};
 
 // The contexts of a trace.
@@ -20,6 +22,7 @@ pub struct Contexts {
 }
 
 // What stands between an answer's op and the size of its buffer: a refusal's number, 0 or 255; index and length of a finished packet.
+// The number is the format's own byte, and no enum: `tell` reads back whatever stands there.
 #[derive(Clone, Copy)]
 pub struct Head {
     pub number: u8,
@@ -34,7 +37,7 @@ pub struct Called {
     pub next: Contexts,
 }
 
-// The answer's length, and the next contexts.
+// The answer's length, and the next contexts. (There is no heap: the bytes stand in the caller's buffer.)
 #[derive(Clone, Copy)]
 pub struct Answered {
     pub len: usize,
@@ -57,7 +60,7 @@ pub const MAX_ANSWER_LEN: usize = 4110;
 pub fn body_len(head: [u8; 3]) -> usize
     ensures { (result ≡ body_length head) × (result ≤ 65535) }
 {
-    octets::load16(&head, 1) as usize
+    usize::from(octets::load::<u16, 2>(&head, 1))
 }
 
 impl Contexts {
@@ -71,26 +74,39 @@ impl Contexts {
         }
     }
 
-    // Does what a record asks for, and writes the answer at the start of `out`. A record that does not fit changes no context.
+    // Does what a record asks for, and writes the answer at the start of `out`. A record that does not fit changes no context. `op` is the record's
+    // byte, whatever it is: one that names no call is answered as a misfit, and the answer repeats it.
     pub fn answer(self, op: u8, body: &[u8], out: &mut [u8]) -> Answered
         requires { 4110 ≤ length out.old }
         ensures { Shows (answered self op body.now) out.old result out.new }
     {
+        let misfit = Called {
+            head: Head::alone(Head::MISFIT),
+            next: self,
+        };
+        let (called, room) = self
+            .carry_out(op, body, &mut out[HEAD_LEN..])
+            .unwrap_or((misfit, 0));
+        called.head.put(op, room, out);
+        Answered {
+            len: HEAD_LEN + room,
+            next: called.next,
+        }
+    }
+
+    // Does what a record asks for, if it fits: what that leaves, and the size of the answer's buffer, which stands at the start of `buffer`.
+    #[tactic(auto, unfolding(crate::specs::Records::answered))]
+    fn carry_out(self, op: u8, body: &[u8], buffer: &mut [u8]) -> Option<(Called, usize)>
+        requires { 4096 ≤ length buffer.old }
+        ensures { Makes (answered self op body.now) op self buffer.old result buffer.new }
+    {
         if body.len() > MAX_BODY_LEN {
-            return self.misfit(op, out);
+            return None;
         }
-        if op == 1 {
-            return self.set_up_sender(op, body, out);
+        match Op::try_from(op).ok()? {
+            Op::SetUpSender => self.set_up_sender(body),
+            Op::SetUpReceiver => self.set_up_receiver(body),
+            Op::Call(call) => self.call(call, body, buffer),
         }
-        if op == 2 {
-            return self.set_up_receiver(op, body, out);
-        }
-        if op < 3 {
-            return self.misfit(op, out);
-        }
-        if op > 6 {
-            return self.misfit(op, out);
-        }
-        self.answer_call(op, body, out)
     }
 }

@@ -1,15 +1,20 @@
 -- The counter as four words: the initial counter by the XOR of its three terms, and the counter of a block. Assumes nothing.
-use mathlib.Core.List.{List, [], ◌∷◌, ◌++◌}
+use mathlib.Core.List.{List, [], ◌∷◌, ◌++◌, map}
 use mathlib.Core.Path.{◌≡◌, refl, sym, ap, ap₂, ◌∙◌}
 use Prim.Native.Nat.{ℕ, ◌+◌, ◌*◌, ◌/◌, ◌%◌, ◌^◌, ◌<◌}
 use native.Mathlib.Nat.{add-zero, add_assoc, mod-eq_of_lt, le_refl}
 use native.Mathlib.Omega.{arith}
 use lib.Bits.{bit_xor, xor_block, xor_zero_r, xor_comm}
-use lib.ListN.{length, take, drop}
+use lib.ListN.{length, take, drop, get_or}
 use lib.Pow.{pow_pos}
 use lib.Seq.{take-add, take_all}
+use Rattle.std.specs.List.{range_with_len}
 use Rattle.aes.proofs.StateLaws.{added-words}
 use Rattle.aes.specs.Cipher.{cipher}
+use Rattle.aes.specs.Columns.{block}
+use Rattle.aes.specs.declared.State.{State}
+use Rattle.aes_tables.proofs.RoundLaws.{alone-in, both-in}
+use Rattle.aes_tables.specs.Series.{ending}
 use Rattle.octets.proofs.BigEndianLaws.{to_bytes-join, to_bytes-low, to_bytes-xor, from_bytes-append, from-to_bytes, to-from_bytes}
 use Rattle.octets.specs.BigEndian.{to_bytes, from_bytes}
 use Rattle.octets.specs.Xor.{xors}
@@ -44,6 +49,19 @@ block_words a b c d j h =
 pub counter-block : (w : List ℕ) (a b c d j : ℕ) → d + j < 2 ^ 32 → cipher w 10 (words a b c (d + j)) ≡ keystream_block w (from_bytes (words a b c d)) j
 unfolding keystream_block
 counter-block w a b c d j h = ap (cipher w 10) (block_words a b c d j h)
+
+-- the blocks of a series are those of the keystream
+module _ (w : List ℕ) (s : State) (nr : ℕ) (r : List State) (d : State) (e : nr ≡ 10) where
+  at : (j : ℕ) {x : List ℕ} → s.c3 + j < 2 ^ 32 → x ≡ cipher w nr (block (ending s (s.c3 + j))) → x ≡ keystream_block w (from_bytes (block s)) j
+  at j h f = f ∙ ap (λ (n : ℕ). cipher w n (block (ending s (s.c3 + j)))) e ∙ counter-block w s.c0 s.c1 s.c2 s.c3 j h
+
+  pub one-block : (j : ℕ) → s.c3 + j < 2 ^ 32 → map block r ≡ map (λ i. cipher w nr (block (ending s (s.c3 + i)))) (range_with_len j 1)
+      → block (get_or r 0 d) ≡ keystream_block w (from_bytes (block s)) j
+  one-block j h f = at j h (alone-in r d f)
+
+  pub two-blocks : (j : ℕ) → s.c3 + (j + 1) < 2 ^ 32 → map block r ≡ map (λ i. cipher w nr (block (ending s (s.c3 + i)))) (range_with_len j 2)
+      → (block (get_or r 0 d) ≡ keystream_block w (from_bytes (block s)) j) × (block (get_or r 1 d) ≡ keystream_block w (from_bytes (block s)) (j + 1))
+  two-blocks j h f = let b = both-in r d f in (at j (omega arith) b.0, at (j + 1) h b.1)
 
 -- ---- the initial counter
 

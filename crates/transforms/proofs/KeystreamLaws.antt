@@ -4,15 +4,16 @@ use mathlib.Core.Path.{◌≡◌, refl, sym, ap, ap₂, ◌∙◌}
 use Prim.Native.Nat.{ℕ, zero, suc, ◌+◌, ◌-◌, ◌*◌, ◌/◌, ◌%◌, ◌^◌, ◌<◌, ◌≤◌}
 use native.Mathlib.Nat.{add-zero, add-suc, add_assoc, mod-add-mod}
 use native.Mathlib.Omega.{arith}
-use lib.ListN.{length, take, drop, length-append, length-drop}
+use lib.ListN.{length, take, drop, length-append}
 use lib.Seq.{take-add, take_all, take-take, take-append-le, drop_at, drop-drop, length-take-le}
+use Rattle.std.proofs.lemmas.List.{drop-take}
 use Rattle.aes.proofs.AesLaws.{length-cipher}
 use Rattle.aes.specs.Cipher.{cipher}
 use Rattle.octets.proofs.BigEndianLaws.{from-to_bytes}
 use Rattle.octets.specs.BigEndian.{Bytes, to_bytes, from_bytes}
 use Rattle.transforms.specs.CounterMode.{keystream_block, keystream_blocks, keystream}
 use Rattle.transforms.proofs.BlockBytes.{bytes-cipher}
-use Rattle.transforms.proofs.PartLaws.{drop-take, part-take, bytes-append, bytes_take}
+use Rattle.transforms.proofs.PartLaws.{part-take, bytes-append, bytes_take}
 
 -- ---- blocks
 
@@ -47,8 +48,7 @@ module _ (w : List ℕ) (iv : ℕ) where
   unfolding keystream_blocks
   block_in j n h =
       let e : 16 * j + 16 ≡ 16 * suc j = omega arith in
-      let l : 16 * j ≤ length (keystream_blocks w iv n) = omega (arith, length-blocks n) in
-      sym (drop-take (16 * j) 16 (keystream_blocks w iv n) l)
+      sym (drop-take (16 * j) 16 (keystream_blocks w iv n))
       ∙ ap (λ (k : ℕ). drop (16 * j) (take k (keystream_blocks w iv n))) e
       ∙ ap (drop (16 * j)) (front (suc j) n h)
       ∙ drop_at (keystream_blocks w iv j) (keystream_block w iv j) (16 * j) (length-blocks j)
@@ -88,14 +88,11 @@ module _ (w : List ℕ) (iv : ℕ) where
       → take m (drop (16 * j + o) (keystream w iv n)) ≡ take m (drop o (keystream_block w iv j ++ keystream_block w iv (j + 1)))
   keystream-pair n j o m h k =
       let b : List ℕ = keystream_blocks w iv (n / 16 + 2) in
-      let l : length b ≡ 16 * (n / 16 + 2) = length-blocks (n / 16 + 2) in
-      let q : 16 * j + o ≤ length b = omega arith in
-      let r : o ≤ length (drop (16 * j) b) = omega (arith, length-drop (16 * j) b) in
       let i : j + 1 < n / 16 + 2 = omega arith in
       ap (λ (x : List ℕ). take m (drop (16 * j + o) x)) (keystream-more n (n / 16 + 2) (omega arith))
-      ∙ part-take m (16 * j + o) n b k q
+      ∙ part-take m (16 * j + o) n b k
       ∙ ap (take m) (sym (drop-drop o (16 * j) b))
-      ∙ sym (part-take m o 32 (drop (16 * j) b) h r)
+      ∙ sym (part-take m o 32 (drop (16 * j) b) h)
       ∙ ap (λ (x : List ℕ). take m (drop o x)) (pair-in j (n / 16 + 2) i)
 
   pub take-keystream : (m n : ℕ) → m ≤ n → take m (keystream w iv n) ≡ keystream w iv m
@@ -130,7 +127,7 @@ keystream-behind w iv m n =
     let e : (16 * m + n) / 16 + 1 ≡ m + (n / 16 + 1) = omega arith in
     ap (λ (k : ℕ). drop (16 * m) (take (16 * m + n) (keystream_blocks w iv k))) e
     ∙ ap (λ (x : List ℕ). drop (16 * m) (take (16 * m + n) x)) (blocks-behind w iv m (n / 16 + 1))
-    ∙ drop-take (16 * m) n (a ++ b) (omega (arith, length-append a b))
+    ∙ drop-take (16 * m) n (a ++ b)
     ∙ ap (take n) (drop_at a b (16 * m) l)
 
 -- ---- the initial counter counts modulo 2^128: its bytes fix the segment

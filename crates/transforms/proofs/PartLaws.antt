@@ -3,19 +3,17 @@ use mathlib.Core.List.{List, [], ◌∷◌, ◌++◌}
 use mathlib.Core.Path.{◌≡◌, ap, ◌∙◌}
 use Prim.Native.Nat.{ℕ, zero, suc, ◌+◌, ◌-◌, ◌^◌, ◌<◌, ◌≤◌}
 use native.Mathlib.Omega.{arith}
-use lib.ListN.{length, take, drop, get_or}
-use lib.Seq.{take-take, take-add, drop_at, length-take-le}
+use lib.ListN.{take, drop, get_or}
+use lib.Seq.{take-take}
+use Rattle.std.proofs.lemmas.List.{drop-take}
 use Rattle.octets.specs.BigEndian.{Bytes}
 
-pub drop-take : (n m : ℕ) (l : List ℕ) → n ≤ length l → drop n (take (n + m) l) ≡ take m (drop n l)
-drop-take n m l h = ap (drop n) (take-add n m l) ∙ drop_at (take n l) (take m (drop n l)) n (length-take-le n l h)
-
 -- a part is a part of what is taken, where that reaches
-pub part-take : (m at n : ℕ) (l : List ℕ) → at + m ≤ n → at ≤ length l → take m (drop at (take n l)) ≡ take m (drop at l)
-part-take m at n l h k =
+pub part-take : (m at n : ℕ) (l : List ℕ) → at + m ≤ n → take m (drop at (take n l)) ≡ take m (drop at l)
+part-take m at n l h =
     let e : n ≡ at + (n - at) = omega arith in
     let q : m ≤ n - at = omega arith in
-    ap (λ (x : ℕ). take m (drop at (take x l))) e ∙ ap (take m) (drop-take at (n - at) l k) ∙ take-take m (n - at) (drop at l) q
+    ap (λ (x : ℕ). take m (drop at (take x l))) e ∙ ap (take m) (drop-take at (n - at) l) ∙ take-take m (n - at) (drop at l) q
 
 pub bytes-append : (a b : List ℕ) → Bytes a → Bytes b → Bytes (a ++ b)
 bytes-append [] b p q = q

@@ -1,41 +1,31 @@
 -- Laws of RFC 4771's tag: twenty bytes of it, and their beginnings. Assumes nothing.
 use mathlib.Core.Bool.{Bool, true, false}
-use mathlib.Core.List.{List, ◌++◌}
+use mathlib.Core.List.{List, [], ◌++◌, append-nil}
 use mathlib.Core.Path.{◌≡◌, refl, sym, ap, ap₂, ◌∙◌}
-use Prim.Native.Nat.{ℕ, ◌+◌, ◌-◌, ◌%◌, ◌^◌, ◌≤◌}
+use Prim.Native.Nat.{ℕ, ◌+◌, ◌-◌, ◌^◌, ◌≤◌}
 use native.Mathlib.Omega.{arith}
-use borrow.Author.Tests.{ne_eqb}
-use lib.Dec.{eqb}
-use lib.ListN.{length, take, drop, replicate, length-append, length-replicate}
-use lib.Seq.{take-append-add, take_at, length-take-le}
+use lib.ListN.{length, take, drop, length-append, length-drop, drop_of_length-le}
+use lib.Seq.{take-append-add, take_at}
 use Rattle.octets.specs.BigEndian.{to_bytes, from_bytes}
 use Rattle.octets.specs.Buffer.{over, over_at}
 use Rattle.octets.proofs.BigEndianLaws.{length-to_bytes, from-to_bytes}
-use Rattle.octets.proofs.BufferLaws.{over-whole, over_at-over, over_at-part}
 use Rattle.transforms.specs.Tag.{rollover_counter, number_of, media_tag}
 use Rattle.transforms.specs.Rcc.{carries_counter, tag_with, integrity_tag, carried_counter}
 use Rattle.transforms.specs.declared.SessionKeys.{SessionKeys}
 use Rattle.transforms.specs.declared.Integrity.{Integrity}
-use Rattle.transforms.specs.declared.Integrity.TheVariants.{HmacSha1, Rccm2}
+use Rattle.transforms.specs.declared.Integrity.TheVariants.{HmacSha1}
 use Rattle.transforms.proofs.TagLaws.{length-media_tag, take-media_tag}
 
--- ---- Integrity::carries
-pub carries-at : (rate number : ℕ) (t : Integrity) → t ≡ Rccm2 rate → (rate ≡ 0 → ⊥) → eqb (number % rate) 0 ≡ carries_counter t number
-carries-at rate number t e h = rw (e, ne_eqb rate 0 h)
-
 -- ---- put_counter: the counter written over the MAC's start, and the MAC's first sixteen bytes, kept in x, behind it
-pub counter-joined : (v : ℕ) (m x d w : List ℕ) → length m ≡ 20 → x ≡ over (take 16 m) (replicate 16 0) → d ≡ over_at 0 (to_bytes 4 v) m
-    → w ≡ over x (take (length d - 4) (drop 4 d)) → take 4 d ++ (w ++ drop (length d - 4) (drop 4 d)) ≡ to_bytes 4 v ++ take 16 m
-unfolding over_at
+pub counter-joined : (v : ℕ) (m x d w : List ℕ) → length m ≡ 20 → x ≡ take 16 m → d ≡ over_at 0 (to_bytes 4 v) m → w ≡ x
+    → take 4 d ++ (w ++ drop 16 (drop 4 d)) ≡ to_bytes 4 v ++ take 16 m
+unfolding over_at over
 counter-joined v m x d w l ex e f =
     let t : List ℕ = to_bytes 4 v in
-    let lt : length t ≡ 4 = length-to_bytes 4 v in
-    let lx : length (take 16 m) ≡ 16 = length-take-le 16 m (omega arith) in
-    ap (λ (y : List ℕ). take 4 d ++ (y ++ drop (length d - 4) (drop 4 d))) f
-    ∙ over_at-part 4 (length d - 4) x d refl
-    ∙ ap₂ (over_at 4) (ex ∙ over-whole (take 16 m) (replicate 16 0) (omega (arith, length-replicate {A = ℕ} 16 0))) e
-    ∙ over_at-over 4 t (take 16 m) m (sym lt)
-    ∙ over-whole (t ++ take 16 m) m (omega (arith, length-append t (take 16 m)))
+    let none : drop 16 (drop 4 m) ≡ [] = drop_of_length-le (drop 4 m) {i = 16} (omega (arith, length-drop 4 m)) in
+    ap₂ (λ (y z : List ℕ). take 4 y ++ (z ++ drop 16 (drop 4 y))) e (f ∙ ex)
+    ∙ ap (λ (r : List ℕ). t ++ (take 16 m ++ r)) none
+    ∙ ap (λ (r : List ℕ). t ++ r) (append-nil (take 16 m))
 
 -- ---- media_tag
 module _ (t : Integrity) (k : SessionKeys) (a : List ℕ) (i : ℕ) (w : List ℕ) (e : w ≡ media_tag 20 k a i) (b : Bool)

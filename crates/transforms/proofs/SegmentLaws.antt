@@ -4,8 +4,9 @@ use mathlib.Core.Path.{◌≡◌, refl, sym, ap, ap₂, ◌∙◌}
 use Prim.Native.Nat.{ℕ, ◌+◌, ◌-◌, ◌*◌, ◌/◌, ◌%◌, ◌^◌, ◌<◌, ◌≤◌, min}
 use native.Mathlib.Nat.{zero-add, le_refl}
 use native.Mathlib.Omega.{arith}
-use lib.ListN.{length, take, drop, length-append, length-drop}
+use lib.ListN.{length, take, drop, length-drop}
 use lib.Seq.{take_at, length-take-le, drop-drop}
+use Rattle.std.proofs.lemmas.List.{drop-take}
 use Rattle.octets.proofs.BigEndianLaws.{to_bytes-low}
 use Rattle.octets.specs.BigEndian.{to_bytes, from_bytes}
 use Rattle.octets.specs.Xor.{xors}
@@ -13,7 +14,7 @@ use Rattle.transforms.specs.CounterMode.{keystream_block, keystream}
 use Rattle.transforms.specs.Steps.{segment, xored_at}
 use Rattle.transforms.proofs.CounterLaws.{words, counted}
 use Rattle.transforms.proofs.KeystreamLaws.{length-block, length-keystream, keystream-pair, keystream-behind, take-keystream}
-use Rattle.transforms.proofs.PartLaws.{drop-take, part-take}
+use Rattle.transforms.proofs.PartLaws.{part-take}
 use Rattle.transforms.proofs.XoredLaws.{xored-same, xored-behind, xored-all, series-in}
 
 module _ (w : List ℕ) (iv start : ℕ) where
@@ -46,7 +47,7 @@ module _ (w : List ℕ) (iv start : ℕ) where
       let b : List ℕ = keystream_block w iv ((start + at) / 16 + 1) in
       let l : length a ≡ 16 = ap length ea ∙ length-block w iv ((start + at) / 16) in
       let both : take n (drop o a) ≡ take n (drop o (a ++ b)) =
-      ap (λ (x : List ℕ). take n (drop o x)) (sym (take_at a b 16 l)) ∙ part-take n o 16 (a ++ b) h (omega (arith, length-append a b)) in
+      ap (λ (x : List ℕ). take n (drop o x)) (sym (take_at a b 16 l)) ∙ part-take n o 16 (a ++ b) h in
       pair-part out out' a b at n (omega arith) k ea refl (e ∙ xored-same at n (drop o a) (drop o (a ++ b)) out both)
 
   -- from byte p = start + at on, in the series of that byte: the words are the counter that stands there
@@ -70,7 +71,7 @@ module _ (w : List ℕ) (iv start : ℕ) where
       let here : take i (drop p z) ≡ segment w (iv + j) o i =
       ap (λ (v : ℕ). take i (drop v z)) (sym q)
       ∙ ap (take i) (sym (drop-drop o (16 * j) z) ∙ ap (drop o) behind)
-      ∙ sym (drop-take o i y (omega (arith, length-keystream w (iv + j) r)))
+      ∙ sym (drop-take o i y)
       ∙ ap (drop o) (take-keystream w (iv + j) (o + i) r (omega arith)) in
       let there : segment w (from_bytes (words a b c d)) o (length (take i (drop at out))) ≡ take i (drop at (segment w iv start (length out))) =
       ap (segment w (from_bytes (words a b c d)) o) u

@@ -6,9 +6,9 @@ use Prim.Native.Nat.{ℕ, ◌+◌, ◌≤◌}
 use native.Mathlib.Omega.{arith}
 use lib.ListN.{length, take, drop, length-append, length-take, length-drop, take-append-drop}
 use lib.Seq.{drop-drop}
+use Rattle.std.proofs.lemmas.List.{drop-take}
 use Rattle.octets.proofs.XorLaws.{length-xors, xors-append, xors-twice}
 use Rattle.octets.specs.Xor.{xors}
-use Rattle.transforms.proofs.PartLaws.{drop-take}
 
 -- a text under the stream s
 abbrev pub under : (ℕ → List ℕ) → List ℕ → List ℕ
@@ -45,7 +45,7 @@ module _ (s : ℕ → List ℕ) (size : (n : ℕ) → length (s n) ≡ n) where
         let m : n ≡ start + length a + length b = omega (arith, length-append a b) in
         let t : List ℕ = drop start (s n) in
         let first : take (length a) t ≡ drop start (s (start + length a)) =
-        sym (drop-take start (length a) (s n) (omega (arith, size n))) ∙ ap (drop start) (front (start + length a) n (omega arith)) in
+        sym (drop-take start (length a) (s n)) ∙ ap (drop start) (front (start + length a) n (omega arith)) in
         let rest : drop (length a) t ≡ drop (start + length a) (s (start + length a + length b)) =
         drop-drop (length a) start (s n) ∙ ap (λ (k : ℕ). drop (start + length a) (s k)) m in
         ap (xors (a ++ b)) (sym (take-append-drop (length a) t))

@@ -105,14 +105,6 @@ part_in out b x at from n h e =
 first-end : (from at i l : ℕ) → from < 16 → at + 16 < from + l → i ≡ at + min (16 - from) (l - at) → i ≡ at + (16 - from)
 first-end from at i l h k e = omega arith
 
-second-end : (from at i r l : ℕ) → from < 16 → at + 16 < from + l → i ≡ at + (16 - from) → r ≡ i + min 16 (l - i) → r ≡ at + min (32 - from) (l - at)
-second-end from at i r l h k e f = omega arith
-
-pub pair_end : (from at i r l l₁ : ℕ) → from < 16 → at + 16 < from + l → l₁ ≡ l → i ≡ at + min (16 - from) (l - at) → r ≡ i + min 16 (l₁ - i)
-    → r ≡ at + min (32 - from) (l - at)
-pair_end from at i r l l₁ h k e f g =
-    second-end from at i r l h k (first-end from at i l h k f) (g ∙ ap (λ (n : ℕ). i + min 16 (n - i)) e)
-
 behind : (from at i r n : ℕ) → n ≡ 16 - from → i ≡ at + n → i ≤ r → n + (r - i) ≡ r - at
 behind from at i r n e f h = omega arith
 
@@ -147,11 +139,6 @@ series-in out s x at n h k e =
     ap (λ (z : List ℕ). take at out ++ (z ++ drop n d)) both ∙ ap (λ (i : ℕ). take at out ++ (y ++ drop i d)) (sym l)
 
 -- ---- zeros
-
-pub get_or-zeros : (n i : ℕ) → ◌≡◌ {A = ℕ} (get_or (replicate n 0) i 0) 0
-get_or-zeros zero i = refl
-get_or-zeros (suc n) zero = refl
-get_or-zeros (suc n) (suc i) = get_or-zeros n i
 
 pub zeros-xors : (s : List ℕ) (n : ℕ) → n ≡ length s → xors (replicate n 0) s ≡ s
 zeros-xors [] n e = ap (λ (k : ℕ). xors (replicate k 0) []) e

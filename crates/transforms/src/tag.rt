@@ -7,14 +7,13 @@ ghost use Rattle.transforms.specs.Rcc.{carries_counter, integrity_tag};
 use crate::{Integrity, SessionKeys};
 
 // Writes RFC 3711's, of the media packet with this index. The rollover counter behind the packet is that of the index, and no other can be given.
+// The bound is SHA-1's with room to spare, a clause and no type: it is of slices that callers cut from a packet.
 fn mac(keys: SessionKeys, authenticated: &[u8], index: u64, tag: &mut [u8; 20])
     requires { (length authenticated.now < 2 ^ 60) × (index < 2 ^ 48) }
     ensures { tag.new ≡ media_tag 20 keys authenticated.now index }
 {
-    let k = keys.tag;
-    let mut counter = [0u8; 4];
-    octets::store32(&mut counter, 0, (index >> 16) as u32);
-    hmac_sha1::hmac(k, authenticated, &counter, tag);
+    let counter = (index >> 16) as u32;
+    hmac_sha1::hmac(keys.tag, authenticated, &counter.to_be_bytes(), tag);
 }
 
 impl Integrity {
@@ -25,22 +24,19 @@ impl Integrity {
         let Integrity::Rccm2(rate) = self else {
             return false;
         };
-        if rate == 0 {
-            return false;
-        }
-        number % rate == 0
+        rate != 0 && number % rate == 0
     }
 }
 
 // Puts the rollover counter of the index before the MAC, which stays as far as twenty bytes reach.
-fn put_counter(index: u64, tag: &mut [u8])
-    requires { (index < 2 ^ 48) × (length tag.old ≡ 20) }
+fn put_counter(index: u64, tag: &mut [u8; 20])
+    requires { index < 2 ^ 48 }
     ensures { tag.new ≡ to_bytes 4 (rollover_counter index) ++ take 16 tag.old }
 {
     let mut mac = [0u8; 16];
-    octets::copy_over(&tag[..16], &mut mac);
-    octets::store32(tag, 0, (index >> 16) as u32);
-    octets::copy_over(&mac, &mut tag[4..]);
+    mac.copy_from_slice(&tag[..16]);
+    octets::store(tag, 0, (index >> 16) as u32);
+    tag[4..].copy_from_slice(&mac);
 }
 
 // Writes that of the media packet with this index. Whether it carries the rollover counter is a matter of its sequence number.
@@ -61,11 +57,10 @@ pub fn media_tag(
     }
 }
 
-// Writes that of a control packet.
+// Writes that of a control packet. It has no rollover counter, and no index.
 pub fn control_tag(keys: SessionKeys, authenticated: &[u8], tag: &mut [u8; 20])
     requires { length authenticated.now < 2 ^ 60 }
     ensures { tag.new ≡ control_tag 20 keys authenticated.now }
 {
-    let k = keys.tag;
-    hmac_sha1::hmac(k, authenticated, b"", tag);
+    hmac_sha1::hmac(keys.tag, authenticated, b"", tag);
 }

@@ -1,46 +1,38 @@
 // Hexadecimal text, as the documents print it: read into bytes, and written.
 ghost use Rattle.std.specs.Prelude.{◌≡◌, ◌*◌, ◌<◌, length};
 
-use std::io;
+use std::fmt;
 
-// The bytes that `text` spells, over all of `out`.
-pub fn read(text: &[u8], out: &mut [u8])
-    requires { length text.now ≡ 2 * length out.old }
+// The bytes that `text` spells.
+pub fn bytes<const N: usize>(text: &[u8]) -> [u8; N]
+    requires { length text.now ≡ 2 * N }
 {
-    for i in 0..out.len() {
-        let high = digit(text[2 * i]);
-        let low = digit(text[2 * i + 1]);
-        out[i] = high * 16 + low;
+    let mut out = [0u8; N];
+    for (byte, [high, low]) in out.iter_mut().zip(text.as_chunks::<2>().0) {
+        *byte = digit(*high) * 16 + digit(*low);
     }
+    out
 }
 
 fn digit(c: u8) -> u8
     ensures { result < 16 }
 {
-    if b'0' <= c {
-        if c <= b'9' {
-            return c - b'0';
-        }
+    match c {
+        b'0'..=b'9' => c - b'0',
+        b'a'..=b'f' => c - b'a' + 10,
+        _ => 0,
     }
-    if b'a' <= c {
-        if c <= b'f' {
-            return c - b'a' + 10;
-        }
-    }
-    0
 }
 
-// A line of output: a name and bytes.
-pub fn print_bytes(rt: &impl Print, name: &[u8], b: &[u8]) -> io::Result<()> {
-    rt.write_all(name)?;
-    rt.write_all(b" ")?;
-    print_digits(rt, b)?;
-    rt.write_all(b"\n")
-}
+// Bytes that are shown as two digits each.
+#[derive(Drop)]
+pub struct Hex<'a>(pub &'a [u8]);
 
-pub fn print_digits(rt: &impl Print, b: &[u8]) -> io::Result<()> {
-    for byte in b {
-        print!(rt; "{byte:02x}")?;
+impl fmt::Display for Hex<'_> {
+    fn fmt<W: fmt::Write>(&self, f: &mut fmt::Formatter<W>) -> fmt::Result {
+        for byte in self.0 {
+            write!(f, "{byte:02x}")?;
+        }
+        Ok(())
     }
-    Ok(())
 }

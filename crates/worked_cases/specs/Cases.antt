@@ -1,22 +1,19 @@
 -- The worked cases of 01's 'Bench lots' that are shown of the definitions: what is given, and what is expected. One list, one claim.
 -- Assumes nothing.
-use Rattle.std.specs.Prelude.{ℕ, ◌+◌, ◌-◌, ◌*◌, ◌^◌, ◌≡◌, List, [], ◌∷◌, ◌++◌, map, ℤ, pos, neg_ℤ, replicate}
+use Rattle.std.specs.Prelude.{ℕ, ◌+◌, ◌-◌, ◌*◌, ◌^◌, ◌≡◌, List, [], ◌∷◌, ◌++◌, map, ℤ, pos, neg_ℤ, replicate, Option, None, Some, Result, Ok, Err}
 use Rattle.octets.specs.BigEndian.{to_bytes}
 use Rattle.rtp.specs.Rtp.{header_of}
 use Rattle.rtp.specs.declared.Header.{Header}
-use Rattle.rtp.specs.declared.Header.TheVariants.{Rtp, NotRtp}
 use Rattle.transforms.specs.CounterMode.{initial_counter}
 use Rattle.replay.specs.Index.{ahead, distance, estimate, placed, next_index, next_media}
 use Rattle.replay.specs.Window.{window_length, window_start, window_verdict}
-use Rattle.replay.specs.declared.index.Highest.TheVariants.{At}
-use Rattle.replay.specs.declared.index.Estimate.{Estimate}
-use Rattle.replay.specs.declared.index.Estimate.TheVariants as estimated
-use Rattle.replay.specs.declared.index.LastSent.TheVariants as last
-use Rattle.replay.specs.declared.index.NextIndex.{NextIndex}
-use Rattle.replay.specs.declared.index.NextIndex.TheVariants as next
-use Rattle.replay.specs.declared.window.Verdict.{Verdict}
-use Rattle.replay.specs.declared.window.Verdict.TheVariants as verdict
+use Rattle.replay.specs.declared.index.OutOfRange.{OutOfRange}
+use Rattle.replay.specs.declared.index.OutOfRange.TheVariants as out_of_range
+use Rattle.replay.specs.declared.index.NoIndex.{NoIndex}
+use Rattle.replay.specs.declared.index.NoIndex.TheVariants as no_index
 use Rattle.replay.specs.declared.window.Window.{Window}
+use Rattle.replay.specs.declared.window.Replayed.{Replayed}
+use Rattle.replay.specs.declared.window.Replayed.TheVariants as replayed
 
 -- what is given: a receiver's H, with nothing accepted yet, or a sender's last index, and the number of a packet; or an RTP packet with
 -- so many contributing sources and an extension of so many words; or what a packet's initial counter is made of
@@ -77,33 +74,33 @@ cases =
     ∷ []
 
 -- ---- what the definitions show: those that the contracts of crates `replay`, `rtp` and `transforms` cite
-abbrev judgement : Verdict → Answer
-judgement verdict.New = passes
-judgement verdict.Old = OLD
-judgement verdict.Repeat = REPEAT
+abbrev judgement : Result Unit Replayed → Answer
+judgement (Ok u) = passes
+judgement (Err replayed.Old) = OLD
+judgement (Err replayed.Repeat) = REPEAT
 
-abbrev received : Window → Estimate → Answer
-received w (estimated.Index i) = judgement (window_verdict window_length w i)
-received w estimated.Old = OLD
-received w estimated.Spent = SPENT
+abbrev received : Window → Result ℕ OutOfRange → Answer
+received w (Ok i) = judgement (window_verdict window_length w i)
+received w (Err out_of_range.Old) = OLD
+received w (Err out_of_range.Spent) = SPENT
 
-abbrev sent : NextIndex → Answer
-sent (next.Index i) = passes
-sent next.Order = ORDER
-sent next.Spent = SPENT
+abbrev sent : Result ℕ NoIndex → Answer
+sent (Ok i) = passes
+sent (Err no_index.Order) = ORDER
+sent (Err no_index.Spent) = SPENT
 
 -- version 2 with the extension bit, the sources, and at the end of the extension's first four bytes its count of words; the rest is 0
 abbrev bytes_of : (sources words : ℕ) → List ℕ
 bytes_of sources words = (0x90 + sources) ∷ replicate (11 + 4 * sources + 2) 0 ++ to_bytes 2 words ++ replicate (4 * words) 0
 
-abbrev read : Header → Shown
-read (Rtp n q ssrc) = header n passes
-read NotRtp = header 0 SHAPE
+abbrev read : Option Header → Shown
+read (Some h) = header h.len passes
+read None = header 0 SHAPE
 
 -- whatever rollover counter the receiver was set up with: with an H it plays no part
 abbrev pub shown : (rollover : ℕ) → Given → Shown
-shown r (receiver h q) = at (distance h q) (estimate r q (At h)) (received (window_start (At h)) (placed (estimate r q (At h))))
-shown r (sender l q) = at (pos (ahead l q)) (pos (next_index (last.At l) q)) (sent (next_media (last.At l) q))
+shown r (receiver h q) = at (distance h q) (estimate r q (Some h)) (received (window_start (Some h)) (placed (estimate r q (Some h))))
+shown r (sender l q) = at (pos (ahead l q)) (pos (next_index (Some l) q)) (sent (next_media (Some l) q))
 shown r (packet sources words) = read (header_of (bytes_of sources words))
 shown r (counter salt ssrc index) = iv (to_bytes 16 (initial_counter salt ssrc index))
 

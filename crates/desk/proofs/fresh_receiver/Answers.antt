@@ -1,11 +1,10 @@
-use mathlib.Core.Path.{sym}
-use lib.Seq.{length-take-le}
-use Rattle.desk.proofs.ListenerLaws.{fresh-made}
-use borrow.Author.Rules.{rules}
+use Rattle.std.proofs.Common.{ap, ◌∙◌}
+use Rattle.std.proofs.lemmas.List.{take_rest}
+use Rattle.srtp.specs.declared.Made.{Made}
+use Rattle.srtp.specs.declared.Receiver.{Receiver}
+use Rattle.desk.specs.Listening.{fresh}
 use Rattle.desk.proofs.fresh_receiver.Goals as goal
 
-pub slice_bounds-set_up-end : goal.slice_bounds-set_up-end
-slice_bounds-set_up-end c = sym (length-take-le 16 c.args.key (search rules))
-
 pub returns : goal.returns
-returns c = fresh-made c.args.key c.args.ssrc c.set_up-made.result c.set_up-made.ensures.is
+unfolding fresh
+returns c = ap (λ (made : Made Receiver). made.context) c.set_up.ensures.is ∙ rw (take_rest c.args.key 16)

@@ -8,7 +8,5 @@ pub returns : goal.returns
 unfolding hmac_with sha1_after
 returns c =
     let x = c.args in
-    let h = c.hash_after.ensures x.key.inner c.words-h.ensures in
-    let o = c.hash_digest.ensures x.key.outer _ c.words-o.ensures h in
     let l : length x.d.now ≡ 20 = search rules in
-    digest-alone _ _ _ l (c.put_digest.ensures _ o) ∙ digest-after x.key.outer _
+    digest-alone _ _ _ l c.put_digest.ensures ∙ rw (c.hash_digest.ensures, c.hash_after.ensures) (digest-after x.key.outer _)

@@ -1,4 +1,4 @@
-use Rattle.std.proofs.Common.{ap, ◌∙◌, arith}
+use Rattle.std.proofs.Common.{◌∙◌, ap, arith}
 use Rattle.hmac_sha1.specs.Hmac.{key_state}
 use Rattle.hmac_sha1.proofs.HmacLaws.{key-short, key-long}
 use Rattle.hmac_sha1.proofs.hmac_key.Goals as goal

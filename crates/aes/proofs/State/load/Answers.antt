@@ -4,4 +4,4 @@ use Rattle.aes.proofs.State.load.Goals as goal
 pub returns : goal.returns
 returns c =
     let a = c.args in
-    four-words a.s.now a.at c.load32.ensures.bytes c.load32-2.ensures.bytes c.load32-3.ensures.bytes c.load32-4.ensures.bytes
+    four-words a.s.now a.at c.load.ensures.bytes c.load-2.ensures.bytes c.load-3.ensures.bytes c.load-4.ensures.bytes

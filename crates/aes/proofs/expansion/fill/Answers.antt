@@ -1,12 +1,11 @@
 use mathlib.Core.List.{List, [], ◌∷◌, ◌++◌}
 use mathlib.Core.Path.{◌≡◌, sym, ap, ap₂, ◌∙◌}
-use Prim.Native.Nat.{ℕ, suc, ◌+◌, ◌-◌, ◌*◌, ◌≤◌, ◌<◌}
+use Prim.Native.Nat.{ℕ, suc, ◌+◌, ◌-◌, ◌≤◌, ◌<◌}
 use native.Mathlib.Numerals.{add-one}
 use native.Mathlib.Omega.{arith}
-use borrow.Author.Rules.{rules}
 use lib.Bits.{bit_xor}
-use lib.ListN.{length, take, get_or, set, length-set}
-use lib.Seq.{length-take-le, take-suc-set, get_or-take, take-length}
+use lib.ListN.{length, take, get_or, set}
+use lib.Seq.{length-take-le, take-suc-set, get_or-take}
 use Rattle.aes.specs.KeyExpansion.{expand, next_word, temp}
 use Rattle.aes.proofs.expansion.fill.Goals as goal
 
@@ -34,29 +33,11 @@ unfolding expand
 loop-i-init c =
     let a = c.args in
     let e : a.nk - a.nk ≡ 0 = omega arith in
-    (search rules, search rules, search rules, sym (ap (λ (n : ℕ). expand a.nk n (take a.nk a.w.now)) e))
-
-pub temp_of-requires : goal.temp_of-requires
-temp_of-requires c = record { sbox_table = c.requires.sbox_table; in_range = search rules }
-
-pub loop-i-smaller : goal.loop-i-smaller
-loop-i-smaller c = simp length-set (omega arith)
+    sym (ap (λ (n : ℕ). expand a.nk n (take a.nk a.w.now)) e)
 
 pub loop-i-preserved : goal.loop-i-preserved
 loop-i-preserved c =
     let l = c.loop-i in
     let a = c.args in
-    let e = ap (λ (r : ℕ). take (l.i + 1) (set l.w l.i (bit_xor (get_or l.w (l.i - a.nk) 0) r))) c.temp_of.ensures in (
-      search rules,
-      simp length-set (omega arith),
-      simp length-set (omega arith),
-      e ∙ step a.nk l.w l.i (omega arith) (omega arith) (omega arith) (take a.nk a.w.now) l.invariant.3,
-    )
-
-pub returns : goal.returns
-returns c =
-    let l = c.loop-i in
-    let a = c.args in
-    let e : length l.w ≡ l.i = omega arith in
-    let f : l.i - a.nk ≡ 3 * a.nk + 28 = omega arith in
-    sym (take-length l.w) ∙ ap (λ (n : ℕ). take n l.w) e ∙ l.invariant.3 ∙ ap (λ (n : ℕ). expand a.nk n (take a.nk a.w.now)) f
+    ap (λ (r : ℕ). take (l.i + 1) (set l.w l.i (bit_xor (get_or l.w (l.i - a.nk) 0) r))) c.temp_of.ensures
+    ∙ step a.nk l.w l.i (omega arith) (omega arith) (omega arith) (take a.nk a.w.now) l.invariant

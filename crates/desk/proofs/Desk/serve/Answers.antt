@@ -1,15 +1,24 @@
-use lib.ListN.{length}
-use Rattle.desk.proofs.DeskLaws.{is-taken, taken-cut, taken-room, declines, serves}
-use Rattle.desk.proofs.ReaderLaws.{stands}
-use mathlib.Core.Bool.{not}
-use mathlib.Core.Path.{ap}
+use Rattle.std.proofs.Common.{◌+◌, ◌≤◌, length, arith, rules}
+use Rattle.desk.proofs.DeskLaws.{turns-nothing, turns_more, len-bound, serves}
 use Rattle.desk.proofs.Desk.serve.Goals as goal
 
-pub returns-then-not-takes : goal.returns-then-not-takes
-returns-then-not-takes c = declines c.args.self c.args.input.now c.args.out.now _ c.takes.ensures.value (ap not c.if-not-takes.true)
+pub loop-serving-init : goal.loop-serving-init
+loop-serving-init c = record { within = omega arith; turns = turns-nothing c.args.self _ c.args.input.now c.args.out.now }
 
-pub serve-t-requires : goal.serve-t-requires
-serve-t-requires c = let e = is-taken c.args.self.frame.reader (length c.args.input.now) (length c.args.out.now) _ c.takes.ensures.value (ap not c.if-not-takes.false) in (taken-cut c.args.self.frame.reader (length c.args.input.now) (length c.args.out.now) e, c.takes.ensures.sizes.1, taken-room c.args.self.frame.reader (length c.args.input.now) (length c.args.out.now) e)
+pub turn-requires : goal.turn-requires
+turn-requires c =
+    let bound = len-bound c.args.self _ c.args.input.now c.args.out.now c.loop-serving.serving c.loop-serving.out (search rules) (search rules) c.loop-serving.invariant.turns in
+    let room : length c.args.input.now + 4110 ≤ length c.args.out.now = search rules in
+    (c.loop-serving-test.true, omega arith)
+
+pub loop-serving-preserved : goal.loop-serving-preserved
+loop-serving-preserved c = record {
+  within = search rules;
+  turns = λ f h. let s = c.loop-serving.invariant.turns f h in turns_more c.args.self _ c.args.input.now c.args.out.now c.loop-serving.serving c.loop-serving.out f s c.turn.new.self c.turn.new.out (c.turn.ensures.turns s.begun s.holds);
+}
 
 pub returns : goal.returns
-returns c = let e = is-taken c.args.self.frame.reader (length c.args.input.now) (length c.args.out.now) _ c.takes.ensures.value (ap not c.if-not-takes.false) in serves c.args.self c.args.input.now c.args.out.now e (stands c.args.self.frame.reader c.args.self.frame.kept (taken-cut c.args.self.frame.reader (length c.args.input.now) (length c.args.out.now) e) c.takes.ensures.sizes.0 c.takes.ensures.sizes.1) _ c.serve-t.result.next _ _ c.serve-t.ensures.writes c.serve-t.ensures.fits
+returns c =
+    let bound = len-bound c.args.self _ c.args.input.now c.args.out.now c.loop-serving.serving c.loop-serving.out (search rules) (search rules) c.loop-serving.invariant.turns in
+    let room : length c.args.input.now + 4110 ≤ length c.args.out.now = search rules in
+    serves c.args.self _ c.args.input.now c.args.out.now c.loop-serving.serving c.loop-serving.out (search rules) (search rules) c.loop-serving.invariant.turns (search rules) c.loop-serving-test.false (omega arith)

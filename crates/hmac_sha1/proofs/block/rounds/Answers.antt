@@ -1,32 +1,23 @@
-use Rattle.std.proofs.Common.{◌≡◌, ◌-◌, arith}
+use Rattle.std.proofs.Common.{◌≡◌, ℕ, ◌+◌, ◌-◌, ◌*◌, ap, ◌∙◌, arith, rules}
 use Rattle.hmac_sha1.specs.Sha1.{schedule, rounds}
-use Rattle.hmac_sha1.proofs.RoundLaws.{more-rounds}
+use Rattle.hmac_sha1.proofs.RoundLaws.{rounds-add}
 use Rattle.hmac_sha1.proofs.block.rounds.Goals as goal
 
-pub loop-t-init : goal.loop-t-init
+pub loop-i-init : goal.loop-i-init
 unfolding rounds
-loop-t-init c =
+loop-i-init c = search rules
+
+pub loop-i-preserved : goal.loop-i-preserved
+loop-i-preserved c =
+    let l = c.loop-i in
     let f = c.args.from in
-    let z : f - f ≡ 0 = omega arith in
-    (omega arith, omega arith, omega arith, λ m n h l r. rw z)
-
-pub four_rounds-v-requires : goal.four_rounds-v-requires
-four_rounds-v-requires c = (omega arith, omega arith, omega arith)
-
-pub loop-t-preserved : goal.loop-t-preserved
-loop-t-preserved c =
-    let l = c.loop-t in
-    let x = c.args in (
-      omega arith,
-      omega arith,
-      omega arith,
-      λ m n h k r.
-          more-rounds (schedule m 80) x.from l.t 4 x.s l.v c.four_rounds-v.result (omega arith) (l.invariant.3 m n h k r)
-          (c.four_rounds-v.ensures m n (omega arith) (omega arith) r),
-    )
+    λ m n h k r.
+    c.four_rounds-v.ensures m n (omega arith) (omega arith) r
+    ∙ ap (rounds (schedule m 80) (f + 4 * l.i) 4) (l.invariant m n (omega arith) k r)
+    ∙ rounds-add (schedule m 80) f (4 * l.i) 4 c.args.s
+    ∙ ap (λ (j : ℕ). rounds (schedule m 80) f j c.args.s) (omega arith)
 
 pub returns : goal.returns
 returns c =
-    let l = c.loop-t in
-    let e : l.t ≡ c.args.to = omega arith in
-    λ m n h k r. rw e at (l.invariant.3 m n h k r)
+    let e : 4 * c.loop-i.i ≡ c.args.to - c.args.from = omega arith in
+    rw (← e) c.loop-i.invariant

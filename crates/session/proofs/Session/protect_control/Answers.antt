@@ -15,6 +15,6 @@ returns c =
     let x = c.encrypts-encrypted.ensures in
     let w = control-written a.self _ _ _ _ _ _ _ l c.requires.lengths (encrypts (cipher_of a.self)) _ _
     (c.cipher_control.ensures ∙ ap (λ (e : Bool). over (ciphered_control a.self e a.packet.now a.index) a.out.now) x)
-    (c.index_word-word.ensures ∙ ap (λ (e : Bool). index_word e a.index) x)
-    c.store32.ensures c.control_tag.ensures (c.finish.ensures.written, c.finish.ensures.place) in
+    (c.index_word.ensures ∙ ap (λ (e : Bool). index_word e a.index) x)
+    c.store.ensures c.control_tag.ensures (c.finish.ensures.written, c.finish.ensures.place) in
     record { size = w.0; written = w.1 }

@@ -1,7 +1,6 @@
+use mathlib.Core.Path.{refl}
 use Rattle.session.proofs.PacketReturns.{both-put}
 use Rattle.session.proofs.packets.put_both.Goals as goal
 
-pub returns : goal.returns
-returns c =
-    let w = both-put _ _ _ _ _ _ _ _ c.requires c.put_at-behind.ensures.place c.put_at-behind.ensures.written c.put_at.ensures.place c.put_at.ensures.written in
-    record { place = w.0; written = w.1 }
+pub returns-clause-written : goal.returns-clause-written
+returns-clause-written c = both-put c.args.at c.args.first.now c.args.second.now c.args.out.now _ c.requires c.copy_over.ensures _ _ refl c.copy_over-2.ensures

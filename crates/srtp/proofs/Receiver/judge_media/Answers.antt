@@ -1,157 +1,37 @@
--- `Receiver::judge_media` meets its contract: each way out by its law. Assumes nothing.
-use mathlib.Core.Bool.{true}
-use mathlib.Core.Path.{◌≡◌, sym, ◌∙◌}
-use native.Mathlib.Omega.{arith}
+use mathlib.Core.Path.{refl, sym}
 use borrow.Author.Rules.{rules}
-use lib.ListN.{length}
-use Rattle.srtp.specs.Contexts.{receiver_listed}
-use Rattle.srtp.proofs.ReceiveMediaRows.{Media, media-setup, media-long, media-shape, media-trailer, front-short, tag-long, media-address, media-index}
-use Rattle.srtp.proofs.ReceiverLaws.{receiver-listed, mki-start, tag-start, front_length}
+use Rattle.srtp.proofs.MediaRows.{media_setup, media_rest}
+use Rattle.srtp.proofs.RowLaws.{residual}
 use Rattle.srtp.proofs.Receiver.judge_media.Goals as goal
 
 pub returns-then-not-listed : goal.returns-then-not-listed
-returns-then-not-listed c = search media-setup
-
-pub overflow_add-trailer : goal.overflow_add-trailer
-overflow_add-trailer c =
-    let listed-is : receiver_listed c.args.self ≡ true = sym c.listed.ensures ∙ c.if-not-listed.false in
-    let l = receiver-listed _ (listed-is) in omega (arith, l.mki, l.most)
-
-pub overflow_add-trailer-2 : goal.overflow_add-trailer-2
-overflow_add-trailer-2 c =
-    let listed-is : receiver_listed c.args.self ≡ true = sym c.listed.ensures ∙ c.if-not-listed.false in
-    let l = receiver-listed _ (listed-is) in omega (arith, l.mki, l.most)
-
-pub returns-then-packet-trailer : goal.returns-then-packet-trailer
-returns-then-packet-trailer c =
-    let listed-is : receiver_listed c.args.self ≡ true = sym c.listed.ensures ∙ c.if-not-listed.false in
-    let four : length c.args.self.session.settings.mki ≡ 4 = search rules in
-    media-long c.args.self c.args.packet.now (listed-is) (four) c.args.room c.if-packet-trailer.true
+returns-then-not-listed c = search (rules, media_setup)
 
 pub returns-in_default : goal.returns-in_default
 returns-in_default c =
-    let listed-is : receiver_listed c.args.self ≡ true = sym c.listed.ensures ∙ c.if-not-listed.false in
-    let four : length c.args.self.session.settings.mki ≡ 4 = search rules in
-    let read : Media c.args.self c.args.packet.now c.read_srtp.result = record {
-      listed = listed-is;
-      four = four;
-      short = c.if-packet-trailer.false;
-      answer = c.read_srtp.ensures;
-    } in
-    media-shape (read) _ c.in_default.is
+    rw (media_rest c.args.self c.args.packet.now c.args.room (sym c.if-not-listed.ensures) (search rules) c.if-packet-settings.false _ c.in_default.ensures) refl
 
-pub slice_bounds-judge_address-count : goal.slice_bounds-judge_address-count
-slice_bounds-judge_address-count c =
-    let listed-is : receiver_listed c.args.self ≡ true = sym c.listed.ensures ∙ c.if-not-listed.false in
-    let four : length c.args.self.session.settings.mki ≡ 4 = search rules in
-    let read : Media c.args.self c.args.packet.now c.read_srtp.result = record {
-      listed = listed-is;
-      four = four;
-      short = c.if-packet-trailer.false;
-      answer = c.read_srtp.ensures;
-    } in
-    mki-start (media-trailer (read) c.in-Srtp.is)
+pub returns-in_err-judge_address : goal.returns-in_err-judge_address
+returns-in_err-judge_address c =
+    let rest = media_rest c.args.self c.args.packet.now c.args.room (sym c.if-not-listed.ensures) (search rules) c.if-packet-settings.false _ c.in-Some.ensures in
+    rw (residual c.from_residual.ensures, rest, ← c.in_err-judge_address.ensures) refl
 
-pub slice_bounds-judge_address-start : goal.slice_bounds-judge_address-start
-slice_bounds-judge_address-start c =
-    let listed-is : receiver_listed c.args.self ≡ true = sym c.listed.ensures ∙ c.if-not-listed.false in
-    let four : length c.args.self.session.settings.mki ≡ 4 = search rules in
-    let read : Media c.args.self c.args.packet.now c.read_srtp.result = record {
-      listed = listed-is;
-      four = four;
-      short = c.if-packet-trailer.false;
-      answer = c.read_srtp.ensures;
-    } in
-    mki-start (media-trailer (read) c.in-Srtp.is)
+pub returns-in_err-index : goal.returns-in_err-index
+returns-in_err-index c =
+    let rest = media_rest c.args.self c.args.packet.now c.args.room (sym c.if-not-listed.ensures) (search rules) c.if-packet-settings.false _ c.in-Some.ensures in
+    rw (residual c.from_residual-in_err-index.ensures, rest, ← c.in_ok-judge_address.ensures, ← c.in_err-index.ensures.place) refl
 
-pub slice_bounds-judge_address-end : goal.slice_bounds-judge_address-end
-slice_bounds-judge_address-end c =
-    let listed-is : receiver_listed c.args.self ≡ true = sym c.listed.ensures ∙ c.if-not-listed.false in
-    let four : length c.args.self.session.settings.mki ≡ 4 = search rules in
-    let read : Media c.args.self c.args.packet.now c.read_srtp.result = record {
-      listed = listed-is;
-      four = four;
-      short = c.if-packet-trailer.false;
-      answer = c.read_srtp.ensures;
-    } in
-    tag-start (media-trailer (read) c.in-Srtp.is)
+pub returns-in_err-judge_replay : goal.returns-in_err-judge_replay
+returns-in_err-judge_replay c =
+    let rest = media_rest c.args.self c.args.packet.now c.args.room (sym c.if-not-listed.ensures) (search rules) c.if-packet-settings.false _ c.in-Some.ensures in
+    rw (residual c.from_residual-in_err-judge_replay.ensures, rest, ← c.in_ok-judge_address.ensures, ← c.in_ok-index.ensures.place, ← c.in_err-judge_replay.ensures) refl
 
-pub judge_address-address-requires : goal.judge_address-address-requires
-judge_address-address-requires c =
-    let listed-is : receiver_listed c.args.self ≡ true = sym c.listed.ensures ∙ c.if-not-listed.false in
-    (receiver-listed _ (listed-is)).mki
-
-pub returns-in-Stops : goal.returns-in-Stops
-returns-in-Stops c =
-    let listed-is : receiver_listed c.args.self ≡ true = sym c.listed.ensures ∙ c.if-not-listed.false in
-    let four : length c.args.self.session.settings.mki ≡ 4 = search rules in
-    let read : Media c.args.self c.args.packet.now c.read_srtp.result = record {
-      listed = listed-is;
-      four = four;
-      short = c.if-packet-trailer.false;
-      answer = c.read_srtp.ensures;
-    } in
-    media-address (read) c.in-Srtp.is _ c.judge_address-address.ensures _ c.in-Stops.is
-
-pub slice_bounds-judge_media_index-end : goal.slice_bounds-judge_media_index-end
-slice_bounds-judge_media_index-end c =
-    let listed-is : receiver_listed c.args.self ≡ true = sym c.listed.ensures ∙ c.if-not-listed.false in
-    let four : length c.args.self.session.settings.mki ≡ 4 = search rules in
-    let read : Media c.args.self c.args.packet.now c.read_srtp.result = record {
-      listed = listed-is;
-      four = four;
-      short = c.if-packet-trailer.false;
-      answer = c.read_srtp.ensures;
-    } in
-    sym (front_length (media-trailer (read) c.in-Srtp.is))
-
-pub slice_bounds-judge_media_index-count : goal.slice_bounds-judge_media_index-count
-slice_bounds-judge_media_index-count c =
-    let listed-is : receiver_listed c.args.self ≡ true = sym c.listed.ensures ∙ c.if-not-listed.false in
-    let four : length c.args.self.session.settings.mki ≡ 4 = search rules in
-    let read : Media c.args.self c.args.packet.now c.read_srtp.result = record {
-      listed = listed-is;
-      four = four;
-      short = c.if-packet-trailer.false;
-      answer = c.read_srtp.ensures;
-    } in
-    tag-start (media-trailer (read) c.in-Srtp.is)
-
-pub slice_bounds-judge_media_index-start : goal.slice_bounds-judge_media_index-start
-slice_bounds-judge_media_index-start c =
-    let listed-is : receiver_listed c.args.self ≡ true = sym c.listed.ensures ∙ c.if-not-listed.false in
-    let four : length c.args.self.session.settings.mki ≡ 4 = search rules in
-    let read : Media c.args.self c.args.packet.now c.read_srtp.result = record {
-      listed = listed-is;
-      four = four;
-      short = c.if-packet-trailer.false;
-      answer = c.read_srtp.ensures;
-    } in
-    tag-start (media-trailer (read) c.in-Srtp.is)
-
-pub judge_media_index-requires : goal.judge_media_index-requires
-judge_media_index-requires c =
-    let listed-is : receiver_listed c.args.self ≡ true = sym c.listed.ensures ∙ c.if-not-listed.false in
-    let four : length c.args.self.session.settings.mki ≡ 4 = search rules in
-    let read : Media c.args.self c.args.packet.now c.read_srtp.result = record {
-      listed = listed-is;
-      four = four;
-      short = c.if-packet-trailer.false;
-      answer = c.read_srtp.ensures;
-    } in
-    let r = read in
-    let h = c.in-Srtp.is in
-    let l = receiver-listed _ (listed-is) in
-    record { portion = (front-short r h, tag-long r h l.least); tag_len = (l.least, l.most) }
+pub returns-then-not-is_media_tag : goal.returns-then-not-is_media_tag
+returns-then-not-is_media_tag c =
+    let rest = media_rest c.args.self c.args.packet.now c.args.room (sym c.if-not-listed.ensures) (search rules) c.if-packet-settings.false _ c.in-Some.ensures in
+    rw (rest, ← c.in_ok-judge_address.ensures, ← c.in_ok-index.ensures.place, ← c.in_ok-judge_replay.ensures, ← c.if-not-is_media_tag.ensures) refl
 
 pub returns : goal.returns
 returns c =
-    let listed-is : receiver_listed c.args.self ≡ true = sym c.listed.ensures ∙ c.if-not-listed.false in
-    let four : length c.args.self.session.settings.mki ≡ 4 = search rules in
-    let read : Media c.args.self c.args.packet.now c.read_srtp.result = record {
-      listed = listed-is;
-      four = four;
-      short = c.if-packet-trailer.false;
-      answer = c.read_srtp.ensures;
-    } in
-    media-index (read) c.in-Srtp.is _ c.judge_address-address.ensures c.in_default-address.is c.judge_media_index.ensures
+    let rest = media_rest c.args.self c.args.packet.now c.args.room (sym c.if-not-listed.ensures) (search rules) c.if-packet-settings.false _ c.in-Some.ensures in
+    rw (rest, ← c.in_ok-judge_address.ensures, ← c.in_ok-index.ensures.place, ← c.in_ok-judge_replay.ensures, ← c.if-not-is_media_tag.ensures) refl

@@ -1,21 +1,27 @@
-use mathlib.Core.Path.{sym, ◌∙◌}
-use Rattle.rtp.proofs.RtcpLaws.{rtcp-read}
-use Rattle.srtp.proofs.SenderRows.{control-setup, control-long, control-shape, control-header}
+use mathlib.Core.Path.{refl, sym}
+use borrow.Author.Rules.{rules}
+use Rattle.std.proofs.lemmas.Bool.{lt-ltb, le-ltb}
+use Rattle.srtp.proofs.RowLaws.{residual}
+use Rattle.srtp.proofs.SenderLaws.{control_left, no_control_index, control_index_found}
 use Rattle.srtp.proofs.Sender.judge_control.Goals as goal
 
-pub returns-then-not-listed : goal.returns-then-not-listed
-returns-then-not-listed c = search control-setup
+pub returns-then-room-need : goal.returns-then-room-need
+returns-then-room-need c =
+    let left = control_left c.args.self c.args.packet.now c.args.room (sym c.if-not-listed.ensures) c.if-packet-gt-MAX_PACKET_LEN.false c.in-Some.ensures
+    c.if-header-settings.false (search rules) in
+    rw (left, lt-ltb _ _ c.if-room-need.true) refl
 
-pub returns-then-packet-gt-MAX_PACKET_LEN : goal.returns-then-packet-gt-MAX_PACKET_LEN
-returns-then-packet-gt-MAX_PACKET_LEN c = search control-long
-
-pub returns-in_default : goal.returns-in_default
-returns-in_default c = search control-shape
-
-pub judge_control_header-requires : goal.judge_control_header-requires
-judge_control_header-requires c =
-    let w = rtcp-read c.read_rtcp.ensures c.in-Rtcp.is in
-    record { header = w.ssrc; listed = (c.if-packet-gt-MAX_PACKET_LEN.false, sym c.listed.ensures ∙ c.if-not-listed.false) }
+pub returns-in_err-step : goal.returns-in_err-step
+returns-in_err-step c =
+    let left = control_left c.args.self c.args.packet.now c.args.room (sym c.if-not-listed.ensures) c.if-packet-gt-MAX_PACKET_LEN.false c.in-Some.ensures
+    c.if-header-settings.false (search rules) in
+    let s = rw c.step-step.ensures at (c.in_err-step.was) in
+    rw (residual c.from_residual.ensures, left, le-ltb _ _ c.if-room-need.false, no_control_index _ _ s) refl
 
 pub returns : goal.returns
-returns c = search control-header
+returns c =
+    let left = control_left c.args.self c.args.packet.now c.args.room (sym c.if-not-listed.ensures) c.if-packet-gt-MAX_PACKET_LEN.false c.in-Some.ensures
+    c.if-header-settings.false (search rules) in
+    let s = rw c.step-step.ensures at (c.in_ok-step.was) in
+    let f = control_index_found c.args.self.control.sent _ s in
+    rw (left, le-ltb _ _ c.if-room-need.false, f.0, ← f.1, c.step-step.ensures, s) refl

@@ -1,21 +1,27 @@
-use mathlib.Core.Path.{sym, ◌∙◌}
-use Rattle.rtp.proofs.RtpLaws.{rtp-read}
-use Rattle.srtp.proofs.SenderRows.{media-setup, media-long, media-shape, media-header}
+use mathlib.Core.Path.{refl, sym}
+use borrow.Author.Rules.{rules}
+use Rattle.std.proofs.lemmas.Bool.{lt-ltb, le-ltb}
+use Rattle.srtp.proofs.RowLaws.{residual}
+use Rattle.srtp.proofs.SenderLaws.{media_left, no_media_index, media_index_found}
 use Rattle.srtp.proofs.Sender.judge_media.Goals as goal
 
-pub returns-then-not-listed : goal.returns-then-not-listed
-returns-then-not-listed c = search media-setup
+pub returns-then-room-need : goal.returns-then-room-need
+returns-then-room-need c =
+    let left = media_left c.args.self c.args.packet.now c.args.room (sym c.if-not-listed.ensures) c.if-packet-gt-MAX_PACKET_LEN.false c.in-Some.ensures
+    c.if-header-settings.false (search rules) in
+    rw (left, lt-ltb _ _ c.if-room-need.true) refl
 
-pub returns-then-packet-gt-MAX_PACKET_LEN : goal.returns-then-packet-gt-MAX_PACKET_LEN
-returns-then-packet-gt-MAX_PACKET_LEN c = search media-long
-
-pub returns-in_default : goal.returns-in_default
-returns-in_default c = search media-shape
-
-pub judge_media_header-requires : goal.judge_media_header-requires
-judge_media_header-requires c =
-    let w = rtp-read c.read_header.ensures c.in-Rtp.is in
-    record { header = (w.size, w.number, w.ssrc); listed = (c.if-packet-gt-MAX_PACKET_LEN.false, sym c.listed.ensures ∙ c.if-not-listed.false) }
+pub returns-in_err-step : goal.returns-in_err-step
+returns-in_err-step c =
+    let left = media_left c.args.self c.args.packet.now c.args.room (sym c.if-not-listed.ensures) c.if-packet-gt-MAX_PACKET_LEN.false c.in-Some.ensures
+    c.if-header-settings.false (search rules) in
+    let s = rw c.step-step.ensures at (c.in_err-step.was) in
+    rw (residual c.from_residual.ensures, left, le-ltb _ _ c.if-room-need.false, no_media_index _ _ _ s) refl
 
 pub returns : goal.returns
-returns c = search media-header
+returns c =
+    let left = media_left c.args.self c.args.packet.now c.args.room (sym c.if-not-listed.ensures) c.if-packet-gt-MAX_PACKET_LEN.false c.in-Some.ensures
+    c.if-header-settings.false (search rules) in
+    let s = rw c.step-step.ensures at (c.in_ok-step.was) in
+    let f = media_index_found c.args.self.media.last c.in-Some.header.sequence_number _ s in
+    rw (left, le-ltb _ _ c.if-room-need.false, f.0, f.1, c.step-step.ensures, s) refl

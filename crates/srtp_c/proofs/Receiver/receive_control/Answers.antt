@@ -3,24 +3,19 @@ use Rattle.srtp.specs.declared.Receiver.{Receiver}
 use Rattle.srtp.specs.Calls.{receive_control}
 use Rattle.srtp_c.specs.Plain.{plain_receiver}
 use Rattle.srtp_c.proofs.PlainLaws.{unnamed-receive-control}
-use Rattle.srtp_c.proofs.Returns.{unnamed, all_named, shows-refused, shows-turned}
-use mathlib.Core.Bool.{not}
-use mathlib.Core.Path.{ap}
+use Rattle.srtp_c.proofs.Returns.{shows-refused, shows-turned}
 use Rattle.srtp_c.proofs.Receiver.receive_control.Goals as goal
 
-pub returns-then-not-named : goal.returns-then-not-named
-returns-then-not-named c =
-    let closed = unnamed _ _ c.named.ensures (ap not c.if-not-named.true) in
-    shows-refused plain_receiver _ _ (unnamed-receive-control _ _ _ closed) _ c.refused.ensures _ _
+pub returns-in-Err : goal.returns-in-Err
+returns-in-Err c =
+    let h = c.refused.ensures in
+    shows-refused plain_receiver _ _ _ c.try_from.ensures _ c.in-Err.is _ (unnamed-receive-control _ _ _) _ h.answer _ _ h.next _
 
-pub to_core-receiver-requires : goal.to_core-receiver-requires
-to_core-receiver-requires c = all_named _ _ c.named.ensures (ap not c.if-not-named.false)
-
-pub returns : goal.returns
-returns c =
+pub returns-in-Ok : goal.returns-in-Ok
+returns-in-Ok c =
     let a = c.args in
-    let h = c.receive_control-after.ensures in
-    let stands = c.to_core-receiver.ensures in
-    shows-turned plain_receiver
+    let k = c.shown.ensures in
+    let h = c.receive_control.ensures in
+    shows-turned plain_receiver _ _ _ c.try_from.ensures _ c.in-Ok.is
     (λ (s : Receiver). receive_control s a.packet.now (length a.out.now))
-    _ _ stands _ h.answer _ h.next _ _ h.buffer _ _ _ c.shown.ensures
+    _ h.answer _ h.next _ _ h.buffer _ _ _ k.answer k.next

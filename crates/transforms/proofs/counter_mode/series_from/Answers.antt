@@ -11,24 +11,29 @@ use Rattle.transforms.proofs.counter_mode.series_from.Goals as goal
 pub loop-at-init : goal.loop-at-init
 loop-at-init c =
     let x = c.args in
-    (search rules, search rules, xored-none (segment x.w.now (from_bytes (block x.first)) x.start (length x.out.now)) x.out.now)
-
-pub blocks_in-at-requires : goal.blocks_in-at-requires
-blocks_in-at-requires c = record { round_table = c.requires.round_table; front_of = c.front_of-front.ensures; sizes = search rules }
+    let s = x.series.now in
+    record {
+      within = search rules;
+      size = search rules;
+      part = xored-none (segment s.keys.words.now (from_bytes (block s.first)) x.start (length x.out.now)) x.out.now;
+    }
 
 pub loop-at-preserved : goal.loop-at-preserved
 loop-at-preserved c =
     let l = c.loop-at in
     let x = c.args in
-    let b = c.blocks_in-at in (
-      search rules,
-      search rules,
-      next-part x.w.now (from_bytes (block x.first)) x.start x.out.now l.out _ l.at b.result (omega arith) (omega arith) l.invariant.1
-          l.invariant.2 b.ensures.part,
-    )
+    let s = x.series.now in
+    let b = c.blocks_in-at in
+    record {
+      within = search rules;
+      size = search rules;
+      part = next-part s.keys.words.now (from_bytes (block s.first)) x.start x.out.now l.out _ l.at b.result (omega arith) (omega arith) l.invariant.size
+          l.invariant.part b.ensures.part;
+    }
 
 pub returns : goal.returns
 returns c =
     let l = c.loop-at in
     let x = c.args in
-    all-parts x.w.now (from_bytes (block x.first)) x.start x.out.now l.out l.at (omega arith) l.invariant.2
+    let s = x.series.now in
+    all-parts s.keys.words.now (from_bytes (block s.first)) x.start x.out.now l.out l.at (omega arith) l.invariant.part

@@ -5,7 +5,7 @@ use Rattle.transforms.proofs.derivation.derived.Goals as goal
 pub returns : goal.returns
 returns c =
     let x = c.args in
-    let s = c.initial_counter-first in
-    λ key.
-    derived-in key x.salt x.label x.w.now _ _ s.result.c0 s.result.c1 s.result.c2 s.result.c3 (length x.out.now) s.ensures.bytes
-    c.clear.ensures c.keystream_in.ensures
+    let s = c.new-keystream.result.first in
+    λ key e.
+    derived-in key x.salt x.label x.w.now _ _ s.c0 s.c1 s.c2 s.c3 (length x.out.now) (simp c.from.ensures at c.new-keystream.ensures.counter)
+    (c.fill.ensures.after (λ y h. h)) (simp c.new-keystream.ensures.words at c.xor_in.ensures) e

@@ -1,4 +1,0 @@
-use Rattle.aes.proofs.cipher.shifted.Goals as goal
-
-pub returns : goal.returns
-returns c = cc

@@ -1,4 +1,0 @@
-use Rattle.aes_tables.proofs.rounds.turned.Goals as goal
-
-pub returns : goal.returns
-returns c = cc

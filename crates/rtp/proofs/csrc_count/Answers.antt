@@ -1,9 +1,0 @@
-use native.Mathlib.Omega.{arith}
-use lib.Bits.{and_mask, mask_lt}
-use Rattle.rtp.proofs.csrc_count.Goals as goal
-
-pub overflow_cast-result : goal.overflow_cast-result
-overflow_cast-result c = omega (arith, mask_lt c.args.first 4)
-
-pub returns : goal.returns
-returns c = and_mask c.args.first 4

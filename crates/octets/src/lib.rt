@@ -20,13 +20,16 @@ pub fn xor_over(a: &[u8], b: &[u8], d: &mut [u8])
     }
 }
 
-// Writes `a` over the start of `d`: `copy_from_slice` on a longer slice, said once in the words of `over`.
+// Writes `a` over the start of `d`. No `copy_from_slice`: of a length that is not known it is a call of `memmove`, which a caller in C would have
+// to bring along; the loop becomes one of `memcpy`, which is needed anyhow.
 pub fn copy_over(a: &[u8], d: &mut [u8])
     requires { length a.now ≤ length d.old }
     ensures { d.new ≡ over a.now d.old }
 {
     let len = a.len();
-    d[..len].copy_from_slice(&a[..len]);
+    for i in 0..len {
+        d[i] = a[i];
+    }
 }
 
 // Whether `a` and `b` hold the same bytes. It gathers the differences of all of them and does not stop at the first, so it is no

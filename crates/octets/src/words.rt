@@ -27,7 +27,7 @@ impl Word<2> for u16 {
     }
 
     fn to_be(self) -> [u8; 2] {
-        self.to_be_bytes()
+        u16::to_be_bytes(self)
     }
 }
 
@@ -42,7 +42,7 @@ impl Word<4> for u32 {
     }
 
     fn to_be(self) -> [u8; 4] {
-        self.to_be_bytes()
+        u32::to_be_bytes(self)
     }
 }
 
@@ -57,7 +57,7 @@ impl Word<8> for u64 {
     }
 
     fn to_be(self) -> [u8; 8] {
-        self.to_be_bytes()
+        u64::to_be_bytes(self)
     }
 }
 

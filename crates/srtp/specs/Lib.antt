@@ -1,4 +1,5 @@
 pub mod Refusals
+pub mod RefusalTexts
 pub mod Outcomes
 pub mod Contexts
 pub mod Calls

@@ -11,7 +11,7 @@ use crate::{After, Finished, Receiver, Refusal, at_most};
 use replay::index::{MAX_CONTROL_PACKETS, MAX_MEDIA_INDEX, OutOfRange};
 use replay::window::Window;
 use rtp::SrtpLayout;
-use session::{Profile, Settings};
+use session::{Profile, Session, Settings};
 
 // A media packet that no row refuses: the lengths of its header and of the opened packet, and its index.
 #[derive(Clone, Copy)]
@@ -63,6 +63,32 @@ fn judge_address(
     Ok(())
 }
 
+// Whether `tag` is the media tag of this packet at this index. It is given the session and no receiver: one that is lent to a call is first put
+// together in memory, and then each refusal pays for it.
+#[tactic(auto, using(crate::proofs::ReceiverLaws::tags), unfolding(session::specs::Packets::media_tag))]
+fn is_media_tag(session: Session, index: u64, authenticated: &[u8], tag: &[u8]) -> bool
+    requires portion { (index < 2 ^ 48) × (length authenticated.now ≤ 2048) }
+    requires tag_len { (4 ≤ session.settings.profile.tag_len) × (session.settings.profile.tag_len ≤ 14) }
+    ensures { result ≡ same tag.now (media_tag session authenticated.now index) }
+{
+    let profile = session.settings.profile;
+    let keys = session.media;
+    let mut whole = [0u8; 20];
+    transforms::media_tag(profile.integrity, keys, authenticated, index, &mut whole);
+    octets::same(tag, &whole[..profile.tag_len])
+}
+
+// Whether `tag` is the control tag. It has no index and one length, and goes by the other transform.
+#[tactic(auto, using(crate::proofs::ReceiverLaws::tags), unfolding(session::specs::Packets::control_tag))]
+fn is_control_tag(session: Session, authenticated: &[u8], tag: &[u8]) -> bool
+    requires { length authenticated.now ≤ 2052 }
+    ensures { result ≡ same tag.now (control_tag session authenticated.now) }
+{
+    let mut whole = [0u8; 20];
+    transforms::control_tag(session.control, authenticated, &mut whole);
+    octets::same(tag, &whole[..Profile::CONTROL_TAG_LEN])
+}
+
 impl Receiver {
     // Not SETUP: the lengths that set-up lists, and the bound of each H.
     #[tactic(auto, unfolding(crate::specs::Contexts::receiver_listed))]
@@ -86,31 +112,6 @@ impl Receiver {
             return Ok(replay::index::index_of(counter, number));
         }
         replay::index::estimate(self.media.highest, self.rollover, number)
-    }
-
-    // Whether `tag` is the media tag of this packet at this index.
-    #[tactic(auto, using(crate::proofs::ReceiverLaws::tags), unfolding(session::specs::Packets::media_tag))]
-    fn is_media_tag(self, index: u64, authenticated: &[u8], tag: &[u8]) -> bool
-        requires portion { (index < 2 ^ 48) × (length authenticated.now ≤ 2048) }
-        requires tag_len { (4 ≤ self.session.settings.profile.tag_len) × (self.session.settings.profile.tag_len ≤ 14) }
-        ensures { result ≡ same tag.now (media_tag self.session authenticated.now index) }
-    {
-        let profile = self.session.settings.profile;
-        let keys = self.session.media;
-        let mut whole = [0u8; 20];
-        transforms::media_tag(profile.integrity, keys, authenticated, index, &mut whole);
-        octets::same(tag, &whole[..profile.tag_len])
-    }
-
-    // Whether `tag` is the control tag. It has no index and one length, and goes by the other transform.
-    #[tactic(auto, using(crate::proofs::ReceiverLaws::tags), unfolding(session::specs::Packets::control_tag))]
-    fn is_control_tag(self, authenticated: &[u8], tag: &[u8]) -> bool
-        requires { length authenticated.now ≤ 2052 }
-        ensures { result ≡ same tag.now (control_tag self.session authenticated.now) }
-    {
-        let mut whole = [0u8; 20];
-        transforms::control_tag(self.session.control, authenticated, &mut whole);
-        octets::same(tag, &whole[..Profile::CONTROL_TAG_LEN])
     }
 
     // All rows of a media packet. Where the header can't be read, nothing after it is tried.
@@ -138,7 +139,7 @@ impl Receiver {
         let tag = &packet[tag..];
         let index = self.media_index(header.sequence_number, tag)?;
         judge_replay(self.media, index)?;
-        if !self.is_media_tag(index, authenticated, tag) {
+        if !is_media_tag(self.session, index, authenticated, tag) {
             return Err(Refusal::Forged);
         }
         Ok(MediaOpening {
@@ -176,7 +177,7 @@ impl Receiver {
         )?;
         let index = layout.index as u64;
         judge_replay(self.control, index)?;
-        if !self.is_control_tag(&packet[..layout.mki], &packet[layout.tag..]) {
+        if !is_control_tag(self.session, &packet[..layout.mki], &packet[layout.tag..]) {
             return Err(Refusal::Forged);
         }
         Ok(ControlOpening {

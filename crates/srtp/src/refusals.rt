@@ -1,7 +1,8 @@
 // The table of refusals: the numbers of its rows, the rows of what finds no index, and the rows in words.
-ghost use Rattle.std.specs.Prelude.{◌≡◌};
+ghost use Rattle.std.specs.Prelude.{◌≡◌, Some};
 ghost use Rattle.std.specs.Option.{ok_or};
 ghost use Rattle.srtp.specs.Refusals.{number_of, refusal_of, of_no_index, of_out_of_range, of_replayed};
+ghost use Rattle.srtp.specs.RefusalTexts.{refusal_text, unknown_number_text};
 
 use crate::{Refusal, UnknownNumber};
 use replay::index::{NoIndex, OutOfRange};
@@ -79,6 +80,8 @@ impl From<Replayed> for Refusal {
 
 // The row's name, and what it means.
 impl fmt::Display for Refusal {
+    ghost output = { λ r. Some (refusal_text r) };
+
     fn fmt<W: fmt::Write>(&self, f: &mut fmt::Formatter<W>) -> fmt::Result {
         f.write_str(match self {
             Refusal::Setup => "SETUP (values off the list, or a closed context)",
@@ -99,6 +102,8 @@ impl fmt::Display for Refusal {
 impl Error for Refusal {}
 
 impl fmt::Display for UnknownNumber {
+    ghost output = { λ n. Some (unknown_number_text n.0) };
+
     fn fmt<W: fmt::Write>(&self, f: &mut fmt::Formatter<W>) -> fmt::Result {
         write!(f, "no refusal has number {}", self.0)
     }

@@ -1,6 +1,7 @@
 // Answers of a trace, read back.
-ghost use Rattle.std.specs.Prelude.{◌≡◌, ◌≤◌};
+ghost use Rattle.std.specs.Prelude.{◌≡◌, ◌≤◌, Some};
 ghost use Rattle.tell.specs.Reading.{front_of, refusal_of, told_of};
+ghost use Rattle.tell.specs.Texts.{told_text};
 
 use srtp::Refusal;
 use std::fmt;
@@ -31,6 +32,8 @@ pub enum Told {
 }
 
 impl fmt::Display for Told {
+    ghost output = { λ t. Some (told_text t) };
+
     fn fmt<W: fmt::Write>(&self, f: &mut fmt::Formatter<W>) -> fmt::Result {
         match *self {
             Told::Ready => write!(f, "ready"),

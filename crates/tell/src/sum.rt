@@ -1,6 +1,7 @@
 // How many answers there were, and of which kind.
-ghost use Rattle.std.specs.Prelude.{◌≡◌};
+ghost use Rattle.std.specs.Prelude.{◌≡◌, Some};
 ghost use Rattle.tell.specs.Sums.{none, counted};
+ghost use Rattle.tell.specs.Texts.{sum_text};
 
 use crate::reading::Told;
 use std::fmt;
@@ -44,6 +45,8 @@ impl Sum {
 }
 
 impl fmt::Display for Sum {
+    ghost output = { λ s. Some (sum_text s) };
+
     fn fmt<W: fmt::Write>(&self, f: &mut fmt::Formatter<W>) -> fmt::Result {
         let (answers, sent, accepted, refused) = (
             self.answers,

@@ -1,11 +1,11 @@
 -- What the code of `src/answers.rt` and `src/lib.rt` leaves is what the definitions say. Assumes nothing.
-use Rattle.std.proofs.Common.{◌≡◌, refl, sym, ap, ◌∙◌, ℕ, ◌+◌, ◌-◌, ◌≤◌, arith, List, [], ◌∷◌, ◌++◌, length, take, drop, set, append_assoc, append-nil, length-append, length-take-le, length-drop, take_all, take-append-drop, drop_of_length-le, Option, None, Some, unwrap_or}
+use Rattle.std.proofs.Common.{◌≡◌, refl, sym, ap, ◌∙◌, ℕ, ◌+◌, ◌-◌, ◌≤◌, arith, List, [], ◌∷◌, ◌++◌, length, take, drop, set, append_assoc, append-nil, length-append, length-take-le, length-drop, take_all, take-append-drop, drop_of_length-le}
 use Rattle.std.proofs.Math.Seq.{drop_at, drop-drop}
 use Rattle.octets.proofs.BufferLaws.{over_at-over}
 use Rattle.octets.specs.BigEndian.{to_bytes}
 use Rattle.octets.specs.Buffer.{over, over_at}
 use Rattle.trace_records.specs.Answers.{head_bytes, misfit_head}
-use Rattle.trace_records.specs.Records.{Reply, Made, Makes, Shows}
+use Rattle.trace_records.specs.Records.{Reply, Made, Untouched, Shows}
 use Rattle.trace_records.specs.declared.Called.{Called}
 use Rattle.trace_records.specs.declared.Contexts.{Contexts}
 use Rattle.trace_records.specs.declared.Head.{Head}
@@ -63,22 +63,21 @@ module _ (a : Reply) (op : ℕ) (d x : List ℕ) where
         written = w ∙ head-before (head_bytes op k.head room) d x room hl g f m.rest;
       })
 
-  -- a record that does not fit leaves an answer too, with no buffer
-  made-or : (c : Contexts) (h : Head) → h ≡ misfit_head → (o : Option (Called × ℕ)) → Makes a op c (drop 14 d) o x
-      → let v = unwrap_or o (record { head = h; next = c }, 0) in Made a op v.0 v.1 (drop 14 d) x
-  made-or c h e (Some v) m = m
-  made-or c h e None m = rw e (record { reply = m.reply; rest = m.buffer; fits = omega arith; short = omega arith })
-
   -- the same of the parts as the code lends them
-  pub shown : (c : Contexts) (h : Head) → h ≡ misfit_head → (o : Option (Called × ℕ)) (n : ℕ) → n ≡ length d - 14
-      → Makes a op c (take n (drop 14 d)) o x → 4110 ≤ length d → length x ≡ length (take n (drop 14 d))
-      → (v : Called × ℕ) → v ≡ unwrap_or o (record { head = h; next = c }, 0) → (d' : List ℕ)
-      → d' ≡ over (head_bytes op v.0.head v.1) (take 14 d ++ (x ++ drop n (drop 14 d)))
-      → Shows a d (record { len = 14 + v.1; next = v.0.next }) d'
-  shown c h e o n en m g l v ev d' w =
-      let k : length (drop 14 d) ≤ n = omega (arith, length-drop 14 d) in
-      let y : take n (drop 14 d) ≡ drop 14 d = take_all n (drop 14 d) k in
-      let made : Made a op v.0 v.1 (drop 14 d) x = rw ev (made-or c h e o (rw y at m)) in
-      let fits : v.1 ≤ length x = omega (arith, made.fits, l, ap length y, length-drop 14 d) in
-      made-shown v.0 v.1 made (omega arith) fits d'
-      (w ∙ ap (λ (t : List ℕ). over (head_bytes op v.0.head v.1) (take 14 d ++ t)) (rw (drop_of_length-le (drop 14 d) k) (append-nil x)))
+  pub shown : (k : Called) (room n : ℕ) → n ≡ length d - 14 → Made a op k room (take n (drop 14 d)) x → 4110 ≤ length d
+      → length x ≡ length (take n (drop 14 d)) → (d' : List ℕ) → d' ≡ over (head_bytes op k.head room) (take 14 d ++ (x ++ drop n (drop 14 d)))
+      → Shows a d (record { len = 14 + room; next = k.next }) d'
+  shown k room n en m g l d' w =
+      let e : length (drop 14 d) ≤ n = omega (arith, length-drop 14 d) in
+      let y : take n (drop 14 d) ≡ drop 14 d = take_all n (drop 14 d) e in
+      let made : Made a op k room (drop 14 d) x = rw y at m in
+      let fits : room ≤ length x = omega (arith, made.fits, l, ap length y, length-drop 14 d) in
+      made-shown k room made (omega arith) fits d'
+      (w ∙ ap (λ (t : List ℕ). over (head_bytes op k.head room) (take 14 d ++ t)) (rw (drop_of_length-le (drop 14 d) e) (append-nil x)))
+
+  -- a record that does not fit leaves an answer too, with no buffer
+  pub misfit-shown : (c : Contexts) (h : Head) (n : ℕ) → h ≡ misfit_head → n ≡ length d - 14 → Untouched a op c (take n (drop 14 d)) x → 4110 ≤ length d
+      → length x ≡ length (take n (drop 14 d)) → (d' : List ℕ) → d' ≡ over (head_bytes op h 0) (take 14 d ++ (x ++ drop n (drop 14 d)))
+      → Shows a d (record { len = 14; next = c }) d'
+  misfit-shown c h n e en m =
+      shown (record { head = h; next = c }) 0 n en (rw e (record { reply = m.reply; rest = m.buffer; fits = omega arith; short = omega arith }))

@@ -80,13 +80,13 @@ impl Contexts {
         requires { 4110 ≤ length out.old }
         ensures { Shows (answered self op body.now) out.old result out.new }
     {
-        let misfit = Called {
-            head: Head::alone(Head::MISFIT),
-            next: self,
+        let Some((called, room)) = self.carry_out(op, body, &mut out[HEAD_LEN..]) else {
+            Head::alone(Head::MISFIT).put(op, 0, out);
+            return Answered {
+                len: HEAD_LEN,
+                next: self,
+            };
         };
-        let (called, room) = self
-            .carry_out(op, body, &mut out[HEAD_LEN..])
-            .unwrap_or((misfit, 0));
         called.head.put(op, room, out);
         Answered {
             len: HEAD_LEN + room,

@@ -1,5 +1,6 @@
 // What records ask for.
-ghost use Rattle.trace_records.specs.Ops.{Names};
+ghost use Rattle.std.specs.Prelude.{Some};
+ghost use Rattle.trace_records.specs.Ops.{Names, op_text, unknown_op_text};
 
 use std::error::Error;
 use std::fmt;
@@ -44,6 +45,8 @@ impl TryFrom<u8> for Op {
 }
 
 impl fmt::Display for Op {
+    ghost output = { λ op. Some (op_text op) };
+
     fn fmt<W: fmt::Write>(&self, f: &mut fmt::Formatter<W>) -> fmt::Result {
         f.write_str(match self {
             Op::SetUpSender => "set up sender",
@@ -57,6 +60,8 @@ impl fmt::Display for Op {
 }
 
 impl fmt::Display for UnknownOp {
+    ghost output = { λ op. Some (unknown_op_text op.0) };
+
     fn fmt<W: fmt::Write>(&self, f: &mut fmt::Formatter<W>) -> fmt::Result {
         write!(f, "op {}", self.0)
     }
